@@ -1,0 +1,129 @@
+-- Layout (document 01): the one place of the numbers; touching; the words of records; text up to its zero.
+use Prim.Native.Nat.{ℕ, _+_, _-_, _%_, _^_, _≤_}
+use mathlib.Core.Bool.{Bool, cond, _&&_}
+use mathlib.Core.List.{List, [], _∷_}
+use lib.ListN.{length}
+use lib.Dec.{eqb, leb}
+use Rattle.words.specs.Words.{littleAt, firstIn}
+use Rattle.layout.specs.declared.text.Span.{Span}
+use Rattle.layout.specs.declared.text.Span.the-variants.{Bytes, Broken}
+
+-- ---- numbers are little-endian u32
+abbrev pub wordSize : ℕ
+wordSize = 4
+
+-- ---- header: 128 bytes, magic at 8, version at 12; an area has 128 to 131,072 bytes
+abbrev pub headerSize : ℕ
+headerSize = 128
+
+abbrev pub magicField : ℕ
+magicField = 8
+
+abbrev pub versionField : ℕ
+versionField = 12
+
+abbrev pub areaMin : ℕ
+areaMin = headerSize
+
+abbrev pub areaMax : ℕ
+areaMax = 131072
+
+-- the four bytes PROP
+abbrev pub magic : List ℕ
+magic = 80 ∷ 82 ∷ 79 ∷ 80 ∷ []
+
+abbrev pub version : ℕ
+version = 0xfc6ed0ab
+
+-- ---- node: 20 bytes
+abbrev pub nodeSize : ℕ
+nodeSize = 20
+
+abbrev pub namelenField : ℕ
+namelenField = 0
+
+abbrev pub propField : ℕ
+propField = 4
+
+abbrev pub leftField : ℕ
+leftField = 8
+
+abbrev pub rightField : ℕ
+rightField = 12
+
+abbrev pub childrenField : ℕ
+childrenField = 16
+
+-- ---- entry: 96 bytes, value slot of 92 bytes at 4; long entry: relative offset at 60
+abbrev pub entrySize : ℕ
+entrySize = 96
+
+abbrev pub serialField : ℕ
+serialField = 0
+
+abbrev pub slotField : ℕ
+slotField = 4
+
+abbrev pub slotSize : ℕ
+slotSize = 92
+
+abbrev pub longOffsetField : ℕ
+longOffsetField = 60
+
+-- ---- serial: bit 16 says long, the top byte holds a length
+abbrev pub longBit : ℕ
+longBit = 2 ^ 16
+
+abbrev pub lengthUnit : ℕ
+lengthUnit = 2 ^ 24
+
+-- ---- data bytes 0 to 19 are the root node, 20 to 111 the backup slot
+abbrev pub rootAt : ℕ
+rootAt = 0
+
+abbrev pub backupAt : ℕ
+backupAt = nodeSize
+
+abbrev pub backupSize : ℕ
+backupSize = slotSize
+
+-- ---- offsets count from byte 128; data size is area length minus 128
+abbrev pub dataSize : List ℕ → ℕ
+dataSize area = length area - headerSize
+
+-- the byte that stands so far behind an offset
+abbrev pub placeOf : ℕ → ℕ → ℕ
+placeOf at by = headerSize + at + by
+
+-- the word at a field of the header, and at a field of the record at an offset
+abbrev pub headerWord : List ℕ → ℕ → ℕ
+headerWord area field = littleAt wordSize area field
+
+abbrev pub wordAt : List ℕ → ℕ → ℕ → ℕ
+wordAt area at field = littleAt wordSize area (placeOf at field)
+
+-- ---- touching: it must lie within the area (96 bytes for an entry, 20 for a node) and its offset must be a multiple of 4
+abbrev pub Within : List ℕ → ℕ → ℕ → Type 0
+Within area size at = at + size ≤ dataSize area
+
+unfoldable pub touch : List ℕ → ℕ → ℕ → Bool
+touch area size at = leb (at + size) (dataSize area) && eqb (at % wordSize) 0
+
+abbrev pub NodeIn : List ℕ → ℕ → Type 0
+NodeIn area at = Within area nodeSize at
+
+abbrev pub nodeOk : List ℕ → ℕ → Bool
+nodeOk area at = touch area nodeSize at
+
+abbrev pub EntryIn : List ℕ → ℕ → Type 0
+EntryIn area at = Within area entrySize at
+
+abbrev pub entryOk : List ℕ → ℕ → Bool
+entryOk area at = touch area entrySize at
+
+-- ---- text from a place on: to the first zero within some bytes; none there, or bytes past the area: broken
+abbrev pub textTo : ℕ → ℕ → ℕ → Span
+textTo from to end = cond (eqb to end) Broken (Bytes from to)
+
+unfoldable pub textIn : List ℕ → ℕ → ℕ → Span
+textIn area from size = cond (leb (from + size) (length area)) (textTo from (firstIn 0 area from size) (from + size)) Broken
