@@ -1,0 +1,5 @@
+pub mod HeaderLaws
+pub mod TrieLaws
+pub mod FindLaws
+pub mod ValueLaws
+pub mod Promises

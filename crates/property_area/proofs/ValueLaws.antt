@@ -1,0 +1,75 @@
+-- One law for each way out of the steps of specs/Value.antt, and where a value stands.
+use mathlib.Core.Path.{_≡_, sym, _∙_}
+use mathlib.Core.Bool.{true, false}
+use mathlib.Core.List.{List, []}
+use Prim.Native.Nat.{ℕ, _≤_}
+use native.Mathlib.Omega.{arith}
+use lib.ListN.{length}
+use Rattle.words.specs.Words.{part}
+use Rattle.words.proofs.Laws.{bool-cases}
+use Rattle.layout.specs.declared.refusal.Refusal.{Refusal}
+use Rattle.layout.specs.declared.text.Span.{Span}
+use Rattle.layout.specs.Layout.{areaMax, entrySize, entryOk}
+use Rattle.layout.specs.Refusals.{accepted, refuse}
+use Rattle.layout.proofs.Laws.{touch-in}
+use Rattle.property_info.specs.Entry.{valueOf}
+use Rattle.property_info.proofs.Promises.{value-lies}
+use Rattle.property_area.proofs.HeaderLaws.{header-max}
+use Rattle.property_area.specs.declared.values.Shown.{Shown}
+use Rattle.property_area.specs.Header.{headerOk}
+use Rattle.property_area.specs.Value.{bytes, shownAnswer, bySpan, valueSteps, partOf}
+
+module _ (area : List ℕ) (offset : ℕ) where
+  pub value-header : headerOk area ≡ false → refuse Refusal.BadHeader ≡ valueSteps area offset
+  unfolding valueSteps
+  value-header h = rw h
+
+  module _ (h : headerOk area ≡ true) where
+    pub value-out : entryOk area offset ≡ false → refuse Refusal.Damaged ≡ valueSteps area offset
+    unfolding valueSteps
+    value-out t = rw (h, t)
+
+    module _ (t : entryOk area offset ≡ true) (s : Span) (e : s ≡ valueOf area offset) where
+      pub value-bytes : (from to : ℕ) → s ≡ Span.Bytes from to → accepted (bytes from to) ≡ valueSteps area offset
+      unfolding valueSteps
+      value-bytes from to f = rw (h, t, ← e, f)
+
+      pub value-broken : s ≡ Span.Broken → refuse Refusal.Damaged ≡ valueSteps area offset
+      unfolding valueSteps
+      value-broken f = rw (h, t, ← e, f)
+
+-- ---- a value that is shown is a part of an area that is not too long
+pub record ShownIn (area : List ℕ) (from to : ℕ) : Type 0 where
+  pub low : from ≤ to
+  pub high : to ≤ length area
+  pub small : length area ≤ areaMax
+
+span-of : (s : Span) (from to : ℕ) → bySpan s ≡ accepted (bytes from to) → s ≡ Span.Bytes from to
+span-of (Span.Bytes a b) from to h =
+    let p : a ≡ from = cc in
+    let q : b ≡ to = cc in
+    cc
+span-of Span.Broken from to h = absurd (let q : _≡_ {A = ℕ} 0 1 = cc in omega arith)
+
+pub accepted-in : (area : List ℕ) (offset from to : ℕ) → valueSteps area offset ≡ accepted (bytes from to) → ShownIn area from to
+unfolding valueSteps
+accepted-in area offset from to e =
+    bool-cases (headerOk area)
+    (λ h. bool-cases (entryOk area offset)
+    (λ t.
+    let k : bySpan (valueOf area offset) ≡ accepted (bytes from to) = rw (h, t) at e in
+    let l = value-lies area offset from to (touch-in area entrySize offset t) (span-of (valueOf area offset) from to k) in
+    record { low = l .low; high = l .high; small = header-max area h })
+    (λ t. let k : refuse Refusal.Damaged ≡ accepted (bytes from to) = rw (h, t) at e in absurd (let q : _≡_ {A = ℕ} 0 1 = cc in omega arith)))
+    (λ h. let k : refuse Refusal.BadHeader ≡ accepted (bytes from to) = rw h at e in absurd (let q : _≡_ {A = ℕ} 0 1 = cc in omega arith))
+
+-- ---- for a caller that has the answer in hand: s is what value answered
+module _ (area : List ℕ) (offset : ℕ) (s : Shown) (e : shownAnswer s ≡ valueSteps area offset) where
+  pub shown-in : (from to : ℕ) → s ≡ Shown.Bytes from to → ShownIn area from to
+  shown-in from to f = accepted-in area offset from to (sym e ∙ rw f)
+
+  pub bytes-shown : (from to : ℕ) → s ≡ Shown.Bytes from to → part area from to ≡ partOf area (valueSteps area offset)
+  bytes-shown from to f = rw (← e, f)
+
+  pub bytes-refused : (why : Refusal) → s ≡ Shown.Refused why → [] ≡ partOf area (valueSteps area offset)
+  bytes-refused why f = rw (← e, f)

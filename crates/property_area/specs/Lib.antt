@@ -1,0 +1,5 @@
+pub mod Header
+pub mod Trie
+pub mod Find
+pub mod Value
+pub mod Backup
