@@ -1,0 +1,34 @@
+-- What an answer of the library becomes in C, for each of its cases.
+use mathlib.Core.Path.{_≡_}
+use Prim.Native.Nat.{ℕ, _-_}
+use Rattle.layout.specs.declared.refusal.Refusal.{Refusal}
+use Rattle.layout.specs.Refusals.{Answer, numberOf}
+use Rattle.property_area.specs.declared.lookup.Found.{Found}
+use Rattle.property_area.specs.declared.values.Shown.{Shown}
+use Rattle.property_area.specs.Find.{Hit, foundAnswer}
+use Rattle.property_area.specs.Value.{Part, shownAnswer}
+use Rattle.capi.specs.declared.PaFound.{PaFound}
+use Rattle.capi.specs.declared.PaPart.{PaPart}
+use Rattle.capi.specs.Capi.{foundStruct, partStruct}
+
+abbrev c-found : ℕ → ℕ → ℕ → PaFound
+c-found refusal entry compared = record { refusal = refusal; entry = entry; compared = compared }
+
+abbrev c-part : ℕ → ℕ → ℕ → PaPart
+c-part refusal start length = record { refusal = refusal; start = start; length = length }
+
+-- f is what find answered
+module _ (answer : Answer Hit) (f : Found) (e : foundAnswer f ≡ answer) where
+  pub found-entry : (offset compared : ℕ) → f ≡ Found.Entry offset compared → c-found 0 offset compared ≡ foundStruct answer
+  found-entry offset compared g = rw (← e, g)
+
+  pub found-refused : (why : Refusal) → f ≡ Found.Refused why → (number : ℕ) → number ≡ numberOf why → c-found number 0 0 ≡ foundStruct answer
+  found-refused why g number h = rw (← e, g, h)
+
+-- s is what value answered
+module _ (answer : Answer Part) (s : Shown) (e : shownAnswer s ≡ answer) where
+  pub part-bytes : (from to : ℕ) → s ≡ Shown.Bytes from to → c-part 0 from (to - from) ≡ partStruct answer
+  part-bytes from to g = rw (← e, g)
+
+  pub part-refused : (why : Refusal) → s ≡ Shown.Refused why → (number : ℕ) → number ≡ numberOf why → c-part number 0 0 ≡ partStruct answer
+  part-refused why g number h = rw (← e, g, h)

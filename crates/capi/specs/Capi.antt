@@ -1,0 +1,16 @@
+-- The C structs that an answer becomes: refusal 0 and the result, or the refusal's number and zeros.
+use Prim.Native.Nat.{_-_}
+use Rattle.layout.specs.Refusals.{Answer, accepted, refused, noRefusal}
+use Rattle.property_area.specs.Find.{Hit, hit}
+use Rattle.property_area.specs.Value.{Part, bytes}
+use Rattle.capi.specs.declared.PaFound.{PaFound}
+use Rattle.capi.specs.declared.PaPart.{PaPart}
+
+abbrev pub foundStruct : Answer Hit → PaFound
+foundStruct (accepted (hit offset compared)) = record { refusal = noRefusal; entry = offset; compared = compared }
+foundStruct (refused number) = record { refusal = number; entry = 0; compared = 0 }
+
+-- the part from a place up to another: where it starts, counted from the area's first byte, and its length
+abbrev pub partStruct : Answer Part → PaPart
+partStruct (accepted (bytes from to)) = record { refusal = noRefusal; start = from; length = to - from }
+partStruct (refused number) = record { refusal = number; start = 0; length = 0 }

@@ -1,0 +1,76 @@
+// The exported C functions. bindings/c/property_area.h declares them.
+ghost use mathlib.Core.Path.{_≡_};
+ghost use Rattle.layout.specs.Refusals.{leaves};
+ghost use Rattle.property_area.specs.Find.{findSteps};
+ghost use Rattle.property_area.specs.Value.{valueSteps};
+ghost use Rattle.property_area.specs.Backup.{backupSteps};
+ghost use Rattle.counters.specs.Distance.{distance};
+ghost use Rattle.capi.specs.Capi.{foundStruct, partStruct};
+use property_area::Found;
+use property_area::Shown;
+
+// Refusal 0: found. Where refused the rest is 0.
+#[repr(C)]
+pub struct PaFound {
+    pub refusal: u32,
+    pub entry: u32,
+    pub compared: u64,
+}
+
+// Refusal 0: the value is area[start .. start + length]. Where refused the rest is 0.
+#[repr(C)]
+pub struct PaPart {
+    pub refusal: u32,
+    pub start: u32,
+    pub length: u64,
+}
+
+#[no_mangle]
+pub extern "C" fn pa_find(area: &[u8], name: &[u8]) -> PaFound
+    ensures { λ r. ⌜ r ≡ foundStruct (findSteps (now (area .entry)) (now (name .entry))) ⌝ }
+{
+    match property_area::find(area, name) {
+        Found::Entry { offset, compared } => PaFound {
+            refusal: 0,
+            entry: offset,
+            compared: compared as u64,
+        },
+        Found::Refused(why) => PaFound {
+            refusal: why.number(),
+            entry: 0,
+            compared: 0,
+        },
+    }
+}
+
+#[no_mangle]
+pub extern "C" fn pa_value(area: &[u8], entry: u32) -> PaPart
+    ensures { λ r. ⌜ r ≡ partStruct (valueSteps (now (area .entry)) entry) ⌝ }
+{
+    match property_area::value(area, entry) {
+        Shown::Bytes { from, to } => PaPart {
+            refusal: 0,
+            start: from as u32,
+            length: (to - from) as u64,
+        },
+        Shown::Refused(why) => PaPart {
+            refusal: why.number(),
+            start: 0,
+            length: 0,
+        },
+    }
+}
+
+#[no_mangle]
+pub extern "C" fn pa_backup_read(area: &[u8], buffer: &mut [u8]) -> u32
+    ensures { λ r. ⌜ leaves r (now (buffer .exit)) ≡ backupSteps (now (area .entry)) (now (buffer .entry)) ⌝ }
+{
+    property_area::read_dirty_backup(area, buffer).number()
+}
+
+#[no_mangle]
+pub extern "C" fn pa_update_distance(earlier: u32, later: u32) -> u32
+    ensures { λ r. ⌜ r ≡ distance earlier later ⌝ }
+{
+    counters::update_distance(earlier, later)
+}
