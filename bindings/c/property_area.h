@@ -5,8 +5,9 @@
  * (NULL goes with length 0), and buffers that a call writes overlap no other buffer of that call.
  *
  * A refusal has a number:
- *   2 empty segment in a name     3 no such name     5 the area is damaged     6 too long
- *   8 the header, or the length, is no area's
+ *   1 zero byte in an added name   2 empty segment in a name   3 no such name   4 no room   5 the area is damaged
+ *   6 too long   7 a long entry is not updated   8 the header, or the length, is no area's   9 a size over 32 bits
+ * A number returned alone is 0 for accepted, else the refusal. Refusals 1, 2, 3, 8, and every refusal of pa_update, leave every byte.
  */
 #ifndef PROPERTY_AREA_H
 #define PROPERTY_AREA_H
@@ -30,11 +31,24 @@ typedef struct {
     uint64_t length;
 } pa_part;
 
+/* Makes the whole buffer a fresh area: 0, or 8 where area_len is not 240 to 131,072. */
+uint32_t pa_format(uint8_t *area, size_t area_len);
+
 /* The entry of a dotted name: 8, then for each segment 2, 5, 3. */
 pa_found pa_find(const uint8_t *area, size_t area_len, const uint8_t *name, size_t name_len);
 
 /* Where the value of the entry at an offset stands: 8, 5. It is shown up to its first zero. */
 pa_part pa_value(const uint8_t *area, size_t area_len, uint32_t entry);
+
+/* Adds a name with a value: 0, or 8, 1, 2, then 4, 5, 9. A name that is there already keeps its value, and the answer is 0. What a refused add has
+ * linked by then stays. */
+uint32_t pa_add(uint8_t *area, size_t area_len, const uint8_t *name, size_t name_len, const uint8_t *value, size_t value_len);
+
+/* Updates the value of a name in place: 0, or find's refusals, then 7, 6, 5. The old value goes to the backup slot. */
+uint32_t pa_update(uint8_t *area, size_t area_len, const uint8_t *name, size_t name_len, const uint8_t *value, size_t value_len);
+
+/* Stores a backup, then updates the entry at an offset: 0, or 8, 6, 5; then, with the backup stored, 5, 7, 6. */
+uint32_t pa_raw_update(uint8_t *area, size_t area_len, uint32_t entry, const uint8_t *backup, size_t backup_len, const uint8_t *value, size_t value_len);
 
 /* Fills the buffer with the first buffer_len bytes of the backup slot: 0, or 8, 6 (92 bytes or more wanted), 5. A refusal keeps the buffer. */
 uint32_t pa_backup_read(const uint8_t *area, size_t area_len, uint8_t *buffer, size_t buffer_len);

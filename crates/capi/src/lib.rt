@@ -4,6 +4,10 @@ ghost use Rattle.layout.specs.Refusals.{leaves};
 ghost use Rattle.property_area.specs.Find.{findSteps};
 ghost use Rattle.property_area.specs.Value.{valueSteps};
 ghost use Rattle.property_area.specs.Backup.{backupSteps};
+ghost use Rattle.builder.specs.Steps.{outcome};
+ghost use Rattle.builder.specs.Fresh.{formatSteps};
+ghost use Rattle.builder.specs.Add.{addSteps};
+ghost use Rattle.updates.specs.Update.{updateSteps, rawSteps};
 ghost use Rattle.counters.specs.Distance.{distance};
 ghost use Rattle.capi.specs.Capi.{foundStruct, partStruct};
 use property_area::Found;
@@ -23,6 +27,13 @@ pub struct PaPart {
     pub refusal: u32,
     pub start: u32,
     pub length: u64,
+}
+
+#[no_mangle]
+pub extern "C" fn pa_format(area: &mut [u8]) -> u32
+    ensures { λ r. ⌜ leaves r (now (area .exit)) ≡ formatSteps (now (area .entry)) ⌝ }
+{
+    builder::format(area).number()
 }
 
 #[no_mangle]
@@ -59,6 +70,27 @@ pub extern "C" fn pa_value(area: &[u8], entry: u32) -> PaPart
             length: 0,
         },
     }
+}
+
+#[no_mangle]
+pub extern "C" fn pa_add(area: &mut [u8], name: &[u8], value: &[u8]) -> u32
+    ensures { λ r. ⌜ leaves r (now (area .exit)) ≡ outcome (addSteps (now (area .entry)) (now (name .entry)) (now (value .entry))) ⌝ }
+{
+    builder::add(area, name, value).number()
+}
+
+#[no_mangle]
+pub extern "C" fn pa_update(area: &mut [u8], name: &[u8], value: &[u8]) -> u32
+    ensures { λ r. ⌜ leaves r (now (area .exit)) ≡ updateSteps (now (area .entry)) (now (name .entry)) (now (value .entry)) ⌝ }
+{
+    updates::update(area, name, value).number()
+}
+
+#[no_mangle]
+pub extern "C" fn pa_raw_update(area: &mut [u8], entry: u32, backup: &[u8], value: &[u8]) -> u32
+    ensures { λ r. ⌜ leaves r (now (area .exit)) ≡ rawSteps (now (area .entry)) entry (now (backup .entry)) (now (value .entry)) ⌝ }
+{
+    updates::backup_and_apply_write(area, entry, backup, value).number()
 }
 
 #[no_mangle]

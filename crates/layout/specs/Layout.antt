@@ -4,7 +4,7 @@ use mathlib.Core.Bool.{Bool, cond, _&&_}
 use mathlib.Core.List.{List, [], _∷_}
 use lib.ListN.{length}
 use lib.Dec.{eqb, leb}
-use Rattle.words.specs.Words.{littleAt, firstIn}
+use Rattle.words.specs.Words.{littleAt, roundUp4, firstIn}
 use Rattle.layout.specs.declared.text.Span.{Span}
 use Rattle.layout.specs.declared.text.Span.the-variants.{Bytes, Broken}
 
@@ -12,9 +12,15 @@ use Rattle.layout.specs.declared.text.Span.the-variants.{Bytes, Broken}
 abbrev pub wordSize : ℕ
 wordSize = 4
 
--- ---- header: 128 bytes, magic at 8, version at 12; an area has 128 to 131,072 bytes
+abbrev pub wordMax : ℕ
+wordMax = 4294967295
+
+-- ---- header: 128 bytes, used at 0, magic at 8, version at 12; an area has 128 to 131,072 bytes
 abbrev pub headerSize : ℕ
 headerSize = 128
+
+abbrev pub usedField : ℕ
+usedField = 0
 
 abbrev pub magicField : ℕ
 magicField = 8
@@ -54,7 +60,7 @@ rightField = 12
 abbrev pub childrenField : ℕ
 childrenField = 16
 
--- ---- entry: 96 bytes, value slot of 92 bytes at 4; long entry: relative offset at 60
+-- ---- entry: 96 bytes, value slot of 92 bytes at 4; long entry: message of 56 bytes at 4, relative offset at 60
 abbrev pub entrySize : ℕ
 entrySize = 96
 
@@ -66,6 +72,15 @@ slotField = 4
 
 abbrev pub slotSize : ℕ
 slotSize = 92
+
+abbrev pub messageField : ℕ
+messageField = 4
+
+abbrev pub messageSize : ℕ
+messageSize = 56
+
+abbrev pub messageLength : ℕ
+messageLength = 50
 
 abbrev pub longOffsetField : ℕ
 longOffsetField = 60
@@ -87,13 +102,23 @@ backupAt = nodeSize
 abbrev pub backupSize : ℕ
 backupSize = slotSize
 
+-- the first objects stand behind them; a length that can be formatted holds them
+abbrev pub firstFree : ℕ
+firstFree = backupAt + backupSize
+
+abbrev pub formatMin : ℕ
+formatMin = headerSize + firstFree
+
 -- ---- offsets count from byte 128; data size is area length minus 128
 abbrev pub dataSize : List ℕ → ℕ
 dataSize area = length area - headerSize
 
--- the byte that stands so far behind an offset
+-- the byte at an offset, and the byte that stands so far behind it
+abbrev pub byteOf : ℕ → ℕ
+byteOf at = headerSize + at
+
 abbrev pub placeOf : ℕ → ℕ → ℕ
-placeOf at by = headerSize + at + by
+placeOf at by = byteOf at + by
 
 -- the word at a field of the header, and at a field of the record at an offset
 abbrev pub headerWord : List ℕ → ℕ → ℕ
@@ -101,6 +126,16 @@ headerWord area field = littleAt wordSize area field
 
 abbrev pub wordAt : List ℕ → ℕ → ℕ → ℕ
 wordAt area at field = littleAt wordSize area (placeOf at field)
+
+-- ---- a node with name of n bytes takes align4(21 + n); an entry align4(97 + full name length); a long value align4(length + 1)
+abbrev pub nodeTakes : ℕ → ℕ
+nodeTakes n = roundUp4 (nodeSize + n + 1)
+
+abbrev pub entryTakes : ℕ → ℕ
+entryTakes n = roundUp4 (entrySize + n + 1)
+
+abbrev pub valueTakes : ℕ → ℕ
+valueTakes n = roundUp4 (n + 1)
 
 -- ---- touching: it must lie within the area (96 bytes for an entry, 20 for a node) and its offset must be a multiple of 4
 abbrev pub Within : List ℕ → ℕ → ℕ → Type 0

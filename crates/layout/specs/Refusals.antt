@@ -40,5 +40,10 @@ pub data Outcome : Type 0 where
 abbrev pub acceptLeaving : List ℕ → Outcome
 acceptLeaving bytes = leaves noRefusal bytes
 
-abbrev pub refuseLeaving : Refusal → List ℕ → Outcome
-refuseLeaving why bytes = leaves (numberOf why) bytes
+abbrev pub refuseLeaving : List ℕ → Refusal → Outcome
+refuseLeaving bytes why = leaves (numberOf why) bytes
+
+-- a test that a call makes: it goes on, or refuses
+abbrev pub byVerdict : {A : Type 0} → Verdict → (Refusal → A) → A → A
+byVerdict Verdict.Accepted refusing on = on
+byVerdict (Verdict.Refused why) refusing on = refusing why

@@ -10,15 +10,20 @@ pub struct Header {}
 impl Header {
     pub const SIZE: usize = 128;
 
+    pub const USED: usize = 0;
+
     pub const MAGIC: usize = 8;
 
     pub const VERSION: usize = 12;
 
     pub const PROP_AREA_VERSION: u32 = 0xfc6e_d0ab;
 
-    pub const AREA_MIN: usize = 128;
+    pub const AREA_MIN: usize = Header::SIZE;
 
     pub const AREA_MAX: usize = 131_072;
+
+    // What formatting needs: the header, the root and the backup slot.
+    pub const FORMAT_MIN: usize = Header::SIZE + Backup::END;
 }
 
 // The slot in which an update keeps the old value: behind the root node, as large as a value slot.
@@ -28,6 +33,9 @@ impl Backup {
     pub const AT: usize = Node::SIZE;
 
     pub const SIZE: usize = Entry::VALUE_MAX;
+
+    // Where the first object of a fresh area stands.
+    pub const END: usize = Backup::AT + Backup::SIZE;
 }
 
 // A node, by its offset.
@@ -104,6 +112,11 @@ impl Entry {
     pub const VALUE: usize = 4;
 
     pub const VALUE_MAX: usize = 92;
+
+    pub const MESSAGE: usize = 4;
+
+    // How many bytes of it are not zero.
+    pub const MESSAGE_LENGTH: u32 = 50;
 
     pub const LONG_OFFSET: usize = 60;
 

@@ -10,7 +10,7 @@ use native.Mathlib.Omega.{arith}
 use Rattle.words.specs.Words.{part, sameBytes}
 use Rattle.words.proofs.Laws.{bool-cases}
 use Rattle.layout.specs.declared.refusal.Refusal.{Refusal}
-use Rattle.layout.specs.Layout.{areaMin, areaMax, magicField, versionField, magic, version, headerWord, backupAt, backupSize, dataSize, placeOf}
+use Rattle.layout.specs.Layout.{areaMin, areaMax, magicField, versionField, magic, version, headerWord, backupAt, backupSize, dataSize, byteOf, placeOf}
 use Rattle.layout.specs.Refusals.{leaves, noRefusal, numberOf}
 use Rattle.property_area.specs.Header.{headerOk}
 use Rattle.property_area.specs.Backup.{backupSteps}
@@ -62,6 +62,6 @@ module _ (area buffer : List ℕ) where
       backup-short-area l = rw (h, lt-leb backupSize (length buffer) k, lt-ltb (dataSize area) (backupAt + length buffer) l)
 
       pub backup-filled : backupAt + length buffer ≤ dataSize area → (after : List ℕ)
-          → after ≡ part area (placeOf backupAt 0) (placeOf backupAt (length buffer)) → leaves noRefusal after ≡ backupSteps area buffer
+          → after ≡ part area (byteOf backupAt) (placeOf backupAt (length buffer)) → leaves noRefusal after ≡ backupSteps area buffer
       unfolding backupSteps
       backup-filled l after e = rw (h, lt-leb backupSize (length buffer) k, le-ltb (dataSize area) (backupAt + length buffer) l, e)

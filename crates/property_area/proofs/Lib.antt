@@ -1,5 +1,6 @@
 pub mod HeaderLaws
 pub mod TrieLaws
+pub mod LinkLaws
 pub mod FindLaws
 pub mod ValueLaws
 pub mod Promises

@@ -1,21 +1,25 @@
 -- What the read side promises of any bytes: no second outcome of find, value and the backup read, and the bound on the nodes compared.
 use mathlib.Core.Path.{_≡_, sym, ap, _∙_}
-use mathlib.Core.List.{List}
-use Prim.Native.Nat.{ℕ, zero, suc, _+_, _≤_}
+use mathlib.Core.Bool.{true}
+use mathlib.Core.List.{List, [], _∷_}
+use Prim.Native.Nat.{ℕ, zero, suc, _+_, _%_, _≤_}
 use native.Mathlib.Omega.{arith}
 use lib.Dec.{eqb}
 use lib.ListN.{length}
 use Rattle.words.proofs.Laws.{bool-cases}
+use Rattle.names.specs.Names.{segments}
+use Rattle.layout.specs.declared.refusal.Refusal.{Refusal}
 use Rattle.layout.specs.declared.refusal.Verdict.{Verdict}
-use Rattle.layout.specs.Layout.{childrenField, nodeOk, wordAt}
-use Rattle.layout.specs.Refusals.{numberOf, verdictNumber, leaves}
+use Rattle.layout.specs.Layout.{rootAt, propField, childrenField, nodeOk, entryOk, wordAt}
+use Rattle.layout.specs.Refusals.{Answer, accepted, refuse, numberOf, verdictNumber, leaves}
 use Rattle.layout.proofs.Promises.{one-refusal, one-outcome}
 use Rattle.property_area.specs.declared.trie.Visited.{Visited}
 use Rattle.property_area.specs.declared.trie.Searched.{Searched}
 use Rattle.property_area.specs.declared.lookup.Found.{Found}
 use Rattle.property_area.specs.declared.values.Shown.{Shown}
+use Rattle.property_area.specs.Header.{headerOk}
 use Rattle.property_area.specs.Trie.{visitNode, byVisit, nodesMax, searchFrom, segmentSteps}
-use Rattle.property_area.specs.Find.{foundAnswer, findSteps}
+use Rattle.property_area.specs.Find.{Hit, hit, countLimit, foundAnswer, bySearch, propSteps, findFrom, findSteps}
 use Rattle.property_area.specs.Value.{shownAnswer, valueSteps}
 use Rattle.property_area.specs.Backup.{backupSteps}
 
@@ -42,6 +46,38 @@ one-shown area offset a b p q = shown-tells a b (p ∙ sym q)
 pub one-backup : (area buffer : List ℕ) (v w : Verdict) (a b : List ℕ)
     → leaves (verdictNumber v) a ≡ backupSteps area buffer → leaves (verdictNumber w) b ≡ backupSteps area buffer → (v ≡ w) × (a ≡ b)
 one-backup area buffer v w a b p q = one-outcome (backupSteps area buffer) v w a b p q
+
+-- ---- what find finds is an entry that can be touched
+prop-ok : (area : List ℕ) (node n offset m : ℕ) → propSteps area node n ≡ accepted (hit offset m) → entryOk area offset ≡ true
+unfolding propSteps
+prop-ok area node n offset m e =
+    let prop = wordAt area node propField in
+    bool-cases (nodeOk area node)
+    (λ t. bool-cases (eqb prop 0)
+    (λ z. let k : refuse Refusal.Missing ≡ accepted (hit offset m) = rw (t, z) at e in absurd (let q : _≡_ {A = ℕ} 0 1 = cc in omega arith))
+    (λ z. bool-cases (entryOk area prop)
+    (λ o. let k : accepted (hit prop n) ≡ accepted (hit offset m) = rw (t, z, o) at e in let p : prop ≡ offset = cc in rw (← p) o)
+    (λ o. let k : refuse Refusal.Damaged ≡ accepted (hit offset m) = rw (t, z, o) at e in absurd (let q : _≡_ {A = ℕ} 0 1 = cc in omega arith))))
+    (λ t. let k : refuse Refusal.Damaged ≡ accepted (hit offset m) = rw t at e in absurd (let q : _≡_ {A = ℕ} 0 1 = cc in omega arith))
+
+search-ok : (area : List ℕ) (offset m : ℕ) (s : Searched) (on : ℕ → ℕ → Answer Hit) → ((node n : ℕ) → on node n ≡ accepted (hit offset m) → entryOk area offset ≡ true)
+    → bySearch s on ≡ accepted (hit offset m) → entryOk area offset ≡ true
+search-ok area offset m (Searched.Named node n) on f e = f node n e
+search-ok area offset m (Searched.Absent link n) on f e = absurd (let q : _≡_ {A = ℕ} 0 1 = cc in omega arith)
+search-ok area offset m (Searched.Refused why) on f e = absurd (let q : _≡_ {A = ℕ} 0 1 = cc in omega arith)
+
+from-ok : (segs : List (List ℕ)) (area : List ℕ) (node n offset m : ℕ) → findFrom area segs node n ≡ accepted (hit offset m) → entryOk area offset ≡ true
+unfolding findFrom
+from-ok [] area node n offset m e = prop-ok area node n offset m e
+from-ok (seg ∷ rest) area node n offset m e =
+    search-ok area offset m (segmentSteps area seg node) _ (λ named more. from-ok rest area named ((n + more) % countLimit) offset m) e
+
+pub found-ok : (area name : List ℕ) (offset m : ℕ) → findSteps area name ≡ accepted (hit offset m) → entryOk area offset ≡ true
+unfolding findSteps
+found-ok area name offset m e =
+    bool-cases (headerOk area)
+    (λ h. from-ok (segments name) area rootAt 0 offset m (rw h at e))
+    (λ h. let k : refuse Refusal.BadHeader ≡ accepted (hit offset m) = rw h at e in absurd (let q : _≡_ {A = ℕ} 0 1 = cc in omega arith))
 
 -- ---- how many nodes a search says that it compared
 abbrev pub comparedIn : Searched → ℕ

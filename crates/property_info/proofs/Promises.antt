@@ -1,5 +1,5 @@
 -- What the entry promises: its value is a part of the area, a short one has no zero in it, and an update leaves a short entry's even serial.
-use mathlib.Core.Path.{_≡_, _∙_}
+use mathlib.Core.Path.{_≡_, _∙_, ap}
 use mathlib.Core.List.{List}
 use Prim.Native.Nat.{ℕ, _+_, _-_, _*_, _/_, _%_, _≤_, _<_}
 use native.Mathlib.Nat.{div-div-eq-div-mul}
@@ -14,7 +14,7 @@ use Rattle.layout.specs.declared.text.Span.the-variants.{Bytes, Broken}
 use Rattle.layout.specs.Layout.{EntryIn, entrySize, slotField, slotSize, longOffsetField, longBit, lengthUnit, placeOf, wordAt}
 use Rattle.layout.proofs.Laws.{text-stands}
 use Rattle.property_info.specs.Entry.{isLong, shortValue, nameOf, textFrom, behindName, longValue, valueOf}
-use Rattle.property_info.specs.Serial.{counterBits, updatedSerial}
+use Rattle.property_info.specs.Serial.{dirty, counterBits, updatedSerial}
 use Rattle.property_info.proofs.Laws.{value-long, value-short}
 
 -- ---- a value is a part of the area
@@ -74,3 +74,37 @@ updated-even serial size = omega arith
 pub updated-short : (serial size : ℕ) → updatedSerial serial size / longBit % 2 ≡ 0
 unfolding updatedSerial
 updated-short serial size = omega arith
+
+-- the length byte is the new value's, and bits 17 to 23 stay: the carry is lost at bit 16
+pub updated-length : (serial size : ℕ) → updatedSerial serial size / lengthUnit ≡ size
+unfolding updatedSerial
+updated-length serial size = omega arith
+
+-- the counter's bits, by what stands above bit 16 and what stands below
+low-byte : (q : ℕ) → q % 256 ≡ q / 2 % 128 * 2 + q % 2
+low-byte q = let e : q / 2 / 128 ≡ q / 256 = div-div-eq-div-mul q 2 128 in omega arith
+
+regroup : (a b r : ℕ) → (a * 2 + b) * longBit + r - b * longBit ≡ a * (2 * longBit) + r
+regroup a b r = omega arith
+
+counter-split : (n : ℕ) → counterBits n ≡ n / (2 * longBit) % 128 * (2 * longBit) + n % longBit
+counter-split n =
+    let q = n / longBit in
+    let high : q / 256 ≡ n / lengthUnit = div-div-eq-div-mul n longBit 256 in
+    let half : q / 2 ≡ n / (2 * longBit) = div-div-eq-div-mul n longBit 2 in
+    let low : n % lengthUnit ≡ q % 256 * longBit + n % longBit = omega (arith, high) in
+    ap (λ (x : ℕ). x - q % 2 * longBit) (low ∙ ap (λ (x : ℕ). x * longBit + n % longBit) (low-byte q))
+    ∙ regroup (q / 2 % 128) (q % 2) (n % longBit)
+    ∙ ap (λ (x : ℕ). x % 128 * (2 * longBit) + n % longBit) half
+
+above : (a r size : ℕ) → a < 128 → r < longBit → (a * (2 * longBit) + r + size * lengthUnit) / (2 * longBit) % 128 ≡ a
+above a r size h k = omega arith
+
+no-carry : (serial : ℕ) → serial / longBit % 2 ≡ 0 → (dirty serial + 1) / (2 * longBit) ≡ serial / (2 * longBit)
+no-carry serial short = omega arith
+
+pub updated-high : (serial size : ℕ) → serial / longBit % 2 ≡ 0 → updatedSerial serial size / (2 * longBit) % 128 ≡ serial / (2 * longBit) % 128
+unfolding updatedSerial
+updated-high serial size short =
+    rw (counter-split (dirty serial + 1), no-carry serial short)
+    (above (serial / (2 * longBit) % 128) ((dirty serial + 1) % longBit) size (omega arith) (omega arith))

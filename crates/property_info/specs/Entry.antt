@@ -1,21 +1,24 @@
 -- Value (document 01): what an entry shows, and where it stands. The entry has been touched.
-use Prim.Native.Nat.{ℕ, _+_, _-_, _/_, _%_}
+use Prim.Native.Nat.{ℕ, _-_, _/_, _%_}
 use mathlib.Core.Bool.{Bool, cond}
 use mathlib.Core.List.{List}
 use lib.ListN.{length}
 use lib.Dec.{eqb, leb}
-use Rattle.words.specs.Words.{firstIn, roundUp4}
+use Rattle.words.specs.Words.{firstIn}
 use Rattle.layout.specs.declared.text.Span.{Span}
 use Rattle.layout.specs.declared.text.Span.the-variants.{Bytes, Broken}
-use Rattle.layout.specs.Layout.{serialField, slotField, slotSize, longOffsetField, longBit, entrySize, placeOf, wordAt, textIn}
+use Rattle.layout.specs.Layout.{serialField, slotField, slotSize, longOffsetField, longBit, entrySize, entryTakes, placeOf, wordAt, textIn}
 
 -- short: serial bit 16 clear
 unfoldable pub isLong : List ℕ → ℕ → Bool
 isLong area at = eqb (wordAt area at serialField / longBit % 2) 1
 
 -- slot bytes up to the first zero, all 92 if none
+abbrev pub slotEnd : List ℕ → ℕ → ℕ
+slotEnd area at = firstIn 0 area (placeOf at slotField) slotSize
+
 unfoldable pub shortValue : List ℕ → ℕ → Span
-shortValue area at = Bytes (placeOf at slotField) (firstIn 0 area (placeOf at slotField) slotSize)
+shortValue area at = Bytes (placeOf at slotField) (slotEnd area at)
 
 -- a text that runs to the next zero in the area
 abbrev pub textFrom : List ℕ → ℕ → Span
@@ -27,7 +30,7 @@ nameOf area at = textFrom area (placeOf at entrySize)
 
 -- the relative offset must be at least align4(96 + L + 1), L being the entry name's length; the value runs to the next zero in the area
 abbrev pub behindName : List ℕ → ℕ → ℕ → Span → Span
-behindName area at relative (Bytes from to) = cond (leb (roundUp4 (entrySize + (to - from) + 1)) relative) (textFrom area (placeOf at relative)) Broken
+behindName area at relative (Bytes from to) = cond (leb (entryTakes (to - from)) relative) (textFrom area (placeOf at relative)) Broken
 behindName area at relative Broken = Broken
 
 -- no zero behind the name, or less offset: broken

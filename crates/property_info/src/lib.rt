@@ -1,13 +1,21 @@
-// The entry: long or short, its name, and where its value stands. Every function takes an entry that has been touched.
+// The entry: long or short, its name, where its value stands, and the writing of it. Every function takes an entry that lies in the area.
 ghost use mathlib.Core.Path.{_≡_};
-ghost use Rattle.layout.specs.Layout.{EntryIn};
+ghost use Prim.Native.Nat.{_<_};
+ghost use lib.ListN.{length};
+ghost use Rattle.words.specs.Stores.{run};
+ghost use Rattle.layout.specs.Layout.{EntryIn, slotSize};
 ghost use Rattle.property_info.specs.Entry.{isLong, shortValue, nameOf, longValue, valueOf};
+ghost use Rattle.property_info.specs.Serial.{dirty, updatedSerial};
+ghost use Rattle.property_info.specs.Written.{shortStores, longStores, writeStores};
 use layout::Entry;
 use layout::Header;
 use layout::Span;
 
 // The serial's bit that tells a long entry.
 const LONG_FLAG: u32 = 0x0001_0000;
+
+// The serial's unit of length: its top byte.
+const LENGTH_UNIT: u32 = 0x0100_0000;
 
 pub fn is_long(area: &[u8], entry: Entry) -> bool
     requires { ⌜ EntryIn (now area) (entry .at) ⌝ }
@@ -65,4 +73,60 @@ pub fn property_value(area: &[u8], entry: Entry) -> Span
         return long_property_value(area, entry);
     }
     short_value_bytes(area, entry)
+}
+
+// Makes a short entry of its serial and value.
+pub fn init_with_value(area: &mut [u8], entry: Entry, value: &[u8])
+    requires { ⌜ (EntryIn (now area) (entry .at)) × (length (now value) < slotSize) ⌝ }
+    ensures { λ _. ⌜ now (area .exit) ≡ run (now (area .entry)) (shortStores (entry .at) (now (value .entry))) ⌝ }
+{
+    let at = Header::SIZE + entry.at;
+    words::put_word(area, at + Entry::SERIAL, value.len() as u32 * LENGTH_UNIT);
+    words::put_text(area, at + Entry::VALUE, value);
+}
+
+// Makes a long entry of its serial, the message for old readers, and how far behind the entry its value stands.
+pub fn init_with_long_offset(area: &mut [u8], entry: Entry, relative: u32)
+    requires { ⌜ EntryIn (now area) (entry .at) ⌝ }
+    ensures { λ _. ⌜ now (area .exit) ≡ run (now (area .entry)) (longStores (entry .at) relative) ⌝ }
+{
+    let at = Header::SIZE + entry.at;
+    words::put_word(
+        area,
+        at + Entry::SERIAL,
+        Entry::MESSAGE_LENGTH * LENGTH_UNIT + LONG_FLAG,
+    );
+    words::copy(
+        area,
+        at + Entry::MESSAGE,
+        b"Must use __system_property_read_callback() to read\0\0\0\0\0\0",
+    );
+    words::put_word(area, at + Entry::LONG_OFFSET, relative);
+}
+
+// The serial while a value is being written: odd.
+fn dirty_serial(serial: u32) -> u32
+    ensures { λ r. ⌜ r ≡ dirty serial ⌝ }
+{
+    serial / 2 * 2 + 1
+}
+
+// The serial after an update: the counter one on, never carried into the bit that tells a long entry, and the new length.
+fn next_serial(serial: u32, size: usize) -> u32
+    requires { ⌜ size < slotSize ⌝ }
+    ensures { λ r. ⌜ r ≡ updatedSerial serial size ⌝ }
+{
+    let counter = std::num::wrapping_add_u32(dirty_serial(serial), 1);
+    counter % LENGTH_UNIT - counter / LONG_FLAG % 2 * LONG_FLAG + size as u32 * LENGTH_UNIT
+}
+
+// Updates a short entry, whose serial was read before: odd serial, value, next serial.
+pub fn apply_write(area: &mut [u8], entry: Entry, serial: u32, value: &[u8])
+    requires { ⌜ (EntryIn (now area) (entry .at)) × (length (now value) < slotSize) ⌝ }
+    ensures { λ _. ⌜ now (area .exit) ≡ run (now (area .entry)) (writeStores (entry .at) serial (now (value .entry))) ⌝ }
+{
+    let at = Header::SIZE + entry.at;
+    words::put_word(area, at + Entry::SERIAL, dirty_serial(serial));
+    words::put_text(area, at + Entry::VALUE, value);
+    words::put_word(area, at + Entry::SERIAL, next_serial(serial, value.len()));
 }

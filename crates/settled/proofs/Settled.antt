@@ -1,50 +1,105 @@
--- Settled examples of document 01, computed from the definitions: one table.
+-- The settled examples of document 01 that are marked *, computed from the definitions: one table.
 use mathlib.Core.Path.{_≡_, refl}
 use mathlib.Core.List.{List, [], _∷_}
 use Prim.Native.Nat.{ℕ}
 use lib.ListN.{replicate}
 use Rattle.words.specs.Words.{littleAt, littleBytes, firstIn, sameBytes, put}
+use Rattle.words.specs.Stores.{run, byteStores}
 use Rattle.names.specs.Names.{segments, segmentOrder, byteOrder}
-use Rattle.layout.specs.Layout.{magic, version, magicField, versionField, rootAt, childrenField, namelenField, propField, nodeSize, placeOf, touch, textIn}
-use Rattle.layout.specs.Refusals.{accepted, refused}
+use Rattle.layout.specs.Layout.{usedField, rootAt, childrenField, leftField, propField, serialField, longOffsetField, headerWord, wordAt, touch, textIn}
+use Rattle.layout.specs.Refusals.{refused, Outcome, leaves}
+use Rattle.property_info.specs.Entry.{isLong, shortValue, nameOf, longValue, valueOf}
 use Rattle.property_info.specs.Serial.{updatedSerial}
+use Rattle.property_info.specs.Written.{shortStores, longStores, message, writeStores}
 use Rattle.property_area.specs.Header.{headerOk}
 use Rattle.property_area.specs.Trie.{visitNode, searchFrom, segmentSteps}
-use Rattle.property_area.specs.Find.{hit, propSteps, findFrom, findSteps}
+use Rattle.property_area.specs.Find.{propSteps, findFrom, findSteps}
+use Rattle.property_area.specs.Value.{valueSteps, partOf}
+use Rattle.builder.specs.Steps.{outcome}
+use Rattle.builder.specs.Fresh.{fresh}
+use Rattle.builder.specs.Allocate.{allocate}
+use Rattle.builder.specs.Nodes.{nodeStores, newNode, hangNode, addNode, addSegment, addPath}
+use Rattle.builder.specs.Entries.{layEntry, longEntry, newEntry, addEntry}
+use Rattle.builder.specs.Add.{anyEmpty, nameVerdict, addSteps}
+use Rattle.updates.specs.Update.{valueVerdict, updateStores, updateEntry, updateSteps}
 use Rattle.counters.specs.Distance.{distance}
 
--- an area of n bytes with nothing in it, and one with node 112 named "a" whose prop is 136
-pub empty : ℕ → List ℕ
-unfolding littleBytes put
-empty n = put (put (replicate n 0) magicField magic) versionField (littleBytes 4 version)
+abbrev pub numberIn : Outcome → ℕ
+numberIn (leaves number area) = number
 
-pub withA : ℕ → List ℕ
-unfolding empty littleBytes put
-withA n =
-    put (put (put (put (empty n) (placeOf rootAt childrenField) (littleBytes 4 112)) (placeOf 112 namelenField) (littleBytes 4 1))
-    (placeOf 112 propField) (littleBytes 4 136))
-    (placeOf 112 nodeSize) (97 ∷ [])
+abbrev pub bytesIn : Outcome → List ℕ
+bytesIn (leaves number area) = area
 
--- a..b
-pub dots : List ℕ
-dots = 97 ∷ 46 ∷ 46 ∷ 98 ∷ []
+-- names and values: a, b, ab.c, a..b; x, q, 12, 345
+abbrev pub a : List ℕ
+a = 97 ∷ []
+
+abbrev pub b : List ℕ
+b = 98 ∷ []
+
+abbrev pub ab-c : List ℕ
+ab-c = 97 ∷ 98 ∷ 46 ∷ 99 ∷ []
+
+abbrev pub a-b : List ℕ
+a-b = 97 ∷ 46 ∷ 46 ∷ 98 ∷ []
+
+-- "a" added with a value to a fresh area of n bytes
+abbrev pub oneName : ℕ → List ℕ → Outcome
+oneName n value = outcome (addSteps (fresh n) a value)
+
+-- fresh 4,096 bytes, "ab.c" is "12"; then "b" is "q"
+abbrev pub first : Outcome
+first = outcome (addSteps (fresh 4096) ab-c (49 ∷ 50 ∷ []))
+
+abbrev pub second : Outcome
+second = outcome (addSteps (bytesIn first) b (113 ∷ []))
+
+-- an answer's number, and words of its bytes: used; or a field of the record at an offset
+abbrev pub usedIn : Outcome → ℕ
+usedIn o = headerWord (bytesIn o) usedField
+
+abbrev pub wordIn : Outcome → ℕ → ℕ → ℕ
+wordIn o at field = wordAt (bytesIn o) at field
 
 pub record Table : Type 0 where
-  pub dots-empty : findSteps (empty 364) dots ≡ refused 3
-  pub dots-a : findSteps (withA 364) dots ≡ refused 2
-  pub a-found : findSteps (withA 364) (97 ∷ []) ≡ accepted (hit 136 1)
-  pub serial-first : updatedSerial 0x02000000 3 ≡ 0x03000002
+  -- add "a", "x": at 364 bytes accepted, used 236; at 363 refused 4, used 136, root children 112; at 263 refused 4, used 112
+  pub at-364 : numberIn (oneName 364 (120 ∷ [])) ∷ usedIn (oneName 364 (120 ∷ [])) ∷ [] ≡ 0 ∷ 236 ∷ []
+  pub at-363 : numberIn (oneName 363 (120 ∷ [])) ∷ usedIn (oneName 363 (120 ∷ [])) ∷ wordIn (oneName 363 (120 ∷ [])) rootAt childrenField ∷ [] ≡ 4 ∷ 136 ∷ 112 ∷ []
+  pub at-263 : numberIn (oneName 263 (120 ∷ [])) ∷ usedIn (oneName 263 (120 ∷ [])) ∷ [] ≡ 4 ∷ 112 ∷ []
+  -- nodes 112 and 136, entry 160, used 264, serial 0x02000000; then node 264 is left of 112, entry 288, used 388
+  pub first-name :
+      numberIn first ∷ wordIn first rootAt childrenField ∷ wordIn first 112 childrenField ∷ wordIn first 136 propField ∷ usedIn first ∷ wordIn first 160 serialField ∷ []
+      ≡ 0 ∷ 112 ∷ 136 ∷ 160 ∷ 264 ∷ 0x02000000 ∷ []
+  pub second-name : numberIn second ∷ wordIn second 112 leftField ∷ wordIn second 264 propField ∷ usedIn second ∷ [] ≡ 0 ∷ 264 ∷ 288 ∷ 388 ∷ []
+  -- 91 bytes: serial 0x5b000000; 92 bytes: entry 136, value 236, relative 100, used 332
+  pub bytes-91 : wordIn (oneName 512 (replicate 91 120)) 136 serialField ≡ 0x5b000000
+  pub bytes-92 :
+      wordIn (oneName 512 (replicate 92 120)) 112 propField ∷ wordIn (oneName 512 (replicate 92 120)) 136 longOffsetField ∷ usedIn (oneName 512 (replicate 92 120)) ∷ []
+      ≡ 136 ∷ 100 ∷ 332 ∷ []
+  pub value-92 : partOf (bytesIn (oneName 512 (replicate 92 120))) (valueSteps (bytesIn (oneName 512 (replicate 92 120))) 136) ≡ replicate 92 120
+  -- update serial 0x02000000 with "345": 0x03000002; 0x0102fffe with one byte: 0x01020000; distance between these two: 1
+  pub update-345 : wordIn (updateSteps (bytesIn first) ab-c (51 ∷ 52 ∷ 53 ∷ [])) 160 serialField ≡ 0x03000002
   pub serial-round : updatedSerial 0x0102fffe 1 ≡ 0x01020000
   pub distance-round : distance 0x0102fffe 0x01020000 ≡ 1
+  -- find "a..b" in an empty area: 3; with "a" present: 2
+  pub dots-empty : findSteps (fresh 364) a-b ≡ refused 3
+  pub dots-a : findSteps (bytesIn (oneName 364 (120 ∷ []))) a-b ≡ refused 2
 
 pub settled : Table
-unfolding empty withA dots littleAt littleBytes firstIn sameBytes put segments segmentOrder byteOrder touch textIn updatedSerial headerOk visitNode searchFrom segmentSteps propSteps findFrom findSteps
+unfolding littleAt littleBytes firstIn sameBytes put run byteStores segments segmentOrder byteOrder touch textIn isLong shortValue nameOf longValue valueOf updatedSerial shortStores longStores message writeStores headerOk visitNode searchFrom segmentSteps propSteps findFrom findSteps valueSteps fresh allocate nodeStores newNode hangNode addNode addSegment addPath layEntry longEntry newEntry addEntry anyEmpty nameVerdict addSteps valueVerdict updateStores updateEntry updateSteps
 settled =
     record {
-      dots-empty = refl;
-      dots-a = refl;
-      a-found = refl;
-      serial-first = refl;
+      at-364 = refl;
+      at-363 = refl;
+      at-263 = refl;
+      first-name = refl;
+      second-name = refl;
+      bytes-91 = refl;
+      bytes-92 = refl;
+      value-92 = refl;
+      update-345 = refl;
       serial-round = refl;
       distance-round = refl;
+      dots-empty = refl;
+      dots-a = refl;
     }

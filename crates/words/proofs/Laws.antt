@@ -8,9 +8,9 @@ use native.Mathlib.Numerals.{add-one}
 use native.Mathlib.Omega.{arith}
 use borrow.Author.Tests.{eq-eqb, ne-eqb}
 use lib.Dec.{eqb}
-use lib.ListN.{length, getD, set, take, drop, length-set, drop-of-length-le}
+use lib.ListN.{length, getD, set, take, drop, length-set, length-take, length-drop, drop-of-length-le}
 use lib.Seq.{ext-getD, length-take-le, getD-set-same, getD-set-other, take-suc, drop-cons}
-use Rattle.words.specs.Words.{littleAt, littleBytes, firstIn, sameBytes, put}
+use Rattle.words.specs.Words.{littleAt, littleBytes, part, firstIn, sameBytes, put}
 
 -- a case by a test, with the test's value as an equation
 pub bool-cases {ℓ} : {P : Type ℓ} (t : Bool) → (t ≡ true → P) → (t ≡ false → P) → P
@@ -92,6 +92,10 @@ pub put-whole : (s bs : List ℕ) → length bs ≡ length s → put s 0 bs ≡ 
 put-whole s bs h =
     ext-getD 0 (put s 0 bs) bs (put-length s 0 bs ∙ sym h)
     (λ k l. rw zero-add at (put-same s 0 bs k (omega (arith, put-length s 0 bs)) (omega arith)))
+
+-- ---- a part
+pub part-length : (s : List ℕ) (from to : ℕ) → from ≤ to → to ≤ length s → length (part s from to) ≡ to - from
+part-length s from to h k = simp (length-take, length-drop) (omega arith)
 
 -- ---- the scan
 module _ (b : ℕ) (s : List ℕ) (i to : ℕ) where

@@ -1,2 +1,3 @@
 pub mod Laws
+pub mod StoreLaws
 pub mod Promises

@@ -1,9 +1,9 @@
--- Bytes in a list: little-endian numbers over size and place, alignment, the scan for a byte, sameness, a run of stores.
+-- Bytes in a list: little-endian numbers over size and place, alignment, the scan for a byte, sameness, bytes replaced from a place on.
 use Prim.Native.Nat.{ℕ, zero, suc, _+_, _-_, _*_, _/_, _%_}
 use mathlib.Core.Bool.{Bool, true, false, cond, _&&_}
 use mathlib.Core.List.{List, [], _∷_}
-use lib.ListN.{getD, set, take, drop}
-use lib.Dec.{eqb}
+use lib.ListN.{length, getD, set, take, drop}
+use lib.Dec.{eqb, ltb}
 
 -- the number whose k bytes stand from a place on, lowest first
 unfoldable pub littleAt : ℕ → List ℕ → ℕ → ℕ
@@ -27,6 +27,9 @@ part s from to = take (to - from) (drop from s)
 unfoldable pub firstIn : ℕ → List ℕ → ℕ → ℕ → ℕ
 firstIn b s at zero = at
 firstIn b s at (suc k) = let later = firstIn b s (at + 1) k in cond (eqb (getD s at 0) b) at later
+
+abbrev pub hasZero : List ℕ → Bool
+hasZero s = ltb (firstIn 0 s 0 (length s)) (length s)
 
 -- whether two runs of bytes are the same
 unfoldable pub sameBytes : List ℕ → List ℕ → Bool

@@ -1,8 +1,9 @@
 // Bytes in a lent slice: little-endian words, alignment, the scan for a byte, a copy, a comparison with a fixed byte string.
 ghost use mathlib.Core.Path.{_≡_};
 ghost use Prim.Native.Nat.{_+_, _-_, _≤_, _<_};
-ghost use lib.ListN.{length};
+ghost use lib.ListN.{length, replicate};
 ghost use Rattle.words.specs.Words.{littleAt, littleBytes, roundUp4, firstIn, sameBytes, put};
+ghost use Rattle.words.specs.Stores.{run, textStores};
 
 // A byte as a word.
 fn wide(b: u8) -> u32
@@ -61,6 +62,26 @@ pub fn copy(dst: &mut [u8], at: usize, src: &[u8])
     let mut i = 0;
     while i < src.len() {
         dst[at + i] = src[i];
+        i += 1;
+    }
+}
+
+// Writes a text and its zero from a place on.
+pub fn put_text(dst: &mut [u8], at: usize, text: &[u8])
+    requires { ⌜ at + length (now text) < length (now dst) ⌝ }
+    ensures { λ _. ⌜ now (dst .exit) ≡ run (now (dst .entry)) (textStores at (now (text .entry))) ⌝ }
+{
+    copy(dst, at, text);
+    dst[at + text.len()] = 0;
+}
+
+// Makes every byte zero.
+pub fn clear(s: &mut [u8])
+    ensures { λ _. ⌜ now (s .exit) ≡ replicate (length (now (s .entry))) 0 ⌝ }
+{
+    let mut i = 0;
+    while i < s.len() {
+        s[i] = 0;
         i += 1;
     }
 }

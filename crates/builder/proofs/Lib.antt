@@ -1,0 +1,6 @@
+pub mod StepLaws
+pub mod AllocateLaws
+pub mod NodeLaws
+pub mod EntryLaws
+pub mod AddLaws
+pub mod Promises
