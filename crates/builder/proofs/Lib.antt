@@ -3,4 +3,5 @@ pub mod AllocateLaws
 pub mod NodeLaws
 pub mod EntryLaws
 pub mod AddLaws
+pub mod Used
 pub mod Promises

@@ -35,7 +35,14 @@ module _ (area : List ℕ) where
       unfolding headerOk
       header-version e w f = rw (le-leb areaMin (length area) h, le-leb (length area) areaMax k, e, f)
 
--- an area that passes is not too long
+-- an area that passes is not too short, and not too long
+pub header-min : (area : List ℕ) → headerOk area ≡ true → areaMin ≤ length area
+unfolding headerOk
+header-min area h =
+    bool-cases (leb areaMin (length area))
+    (λ e. leb-true areaMin (length area) e)
+    (λ e. let k : _≡_ {A = Bool} false true = rw e at h in absurd (let q : _≡_ {A = ℕ} 0 1 = cc in omega arith))
+
 pub header-max : (area : List ℕ) → headerOk area ≡ true → length area ≤ areaMax
 unfolding headerOk
 header-max area h =
