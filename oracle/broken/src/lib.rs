@@ -1,0 +1,5 @@
+//! Twins that are broken on purpose, each in one place: whatever compares has to notice every one. See edits.txt.
+//!
+//! `MUTANTS` lists them, each with what is wrong in it.
+
+include!(concat!(env!("OUT_DIR"), "/mutants.rs"));

@@ -1,0 +1,41 @@
+//! The eight calls that are compared, as one interface.
+//!
+//! A side is whatever answers them: the original, the proved archive, the plain twin, a twin broken on purpose.
+//! Numbers are document 01's: 0 is accepted, any other is a refusal. Offsets of entries count from byte 128.
+
+/// Answer of find. Where refused the rest is 0.
+#[repr(C)]
+#[derive(Clone, Copy, Debug, Default, PartialEq, Eq)]
+pub struct Found {
+    pub refusal: u32,
+    pub entry: u32,
+    /// Nodes compared over all segments.
+    pub compared: u64,
+}
+
+/// Answer of value: it is `area[start .. start + length]`. Where refused the rest is 0.
+#[repr(C)]
+#[derive(Clone, Copy, Debug, Default, PartialEq, Eq)]
+pub struct Part {
+    pub refusal: u32,
+    pub start: u32,
+    pub length: u64,
+}
+
+/// Not in document 01: the call ended in an error that stands for no refusal.
+pub const UNMAPPED: u32 = 254;
+/// Not in document 01: the call panicked.
+pub const PANICKED: u32 = 255;
+
+/// The eight calls. Every one is lent the area for writing, also those that only read: the original looks at an area
+/// through atomics, which a shared slice does not allow, and a reading call that wrote would be noticed.
+pub trait Side {
+    fn format(&self, area: &mut [u8]) -> u32;
+    fn find(&self, area: &mut [u8], name: &[u8]) -> Found;
+    fn value(&self, area: &mut [u8], entry: u32) -> Part;
+    fn add(&self, area: &mut [u8], name: &[u8], value: &[u8]) -> u32;
+    fn update(&self, area: &mut [u8], name: &[u8], value: &[u8]) -> u32;
+    fn raw_update(&self, area: &mut [u8], entry: u32, backup: &[u8], value: &[u8]) -> u32;
+    fn backup_read(&self, area: &mut [u8], buffer: &mut [u8]) -> u32;
+    fn update_distance(&self, earlier: u32, later: u32) -> u32;
+}

@@ -1,0 +1,115 @@
+//! Makes each call on both sides and compares what it leaves: the answer, every byte of the area and of the buffer.
+
+use crate::area::Area;
+use crate::counts::Counts;
+use crate::op::{Answer, Op};
+use calls::{Side, UNMAPPED};
+use original::Original;
+use std::fmt;
+
+/// The longest area that is tried: a little over document 01's limit.
+pub const CAPACITY: usize = 131_080;
+
+/// The side that is held against the original.
+#[derive(Clone, Copy)]
+pub struct Ours {
+    pub name: &'static str,
+    pub side: &'static dyn Side,
+}
+
+pub struct Difference {
+    original: Answer,
+    ours: Answer,
+    /// Place, the original's byte, ours. A place may lie just behind the area.
+    bytes: Vec<(usize, u8, u8)>,
+}
+
+impl fmt::Display for Difference {
+    fn fmt(&self, f: &mut fmt::Formatter<'_>) -> fmt::Result {
+        writeln!(f, "    original answers {}", self.original)?;
+        writeln!(f, "    ours     answers {}", self.ours)?;
+        writeln!(f, "    {} bytes differ", self.bytes.len())?;
+        for (at, original, ours) in self.bytes.iter().take(16) {
+            writeln!(f, "    byte {at} (data offset {}): original {original:#04x}, ours {ours:#04x}", *at as i64 - 128)?;
+        }
+        Ok(())
+    }
+}
+
+pub type Outcome<T = ()> = Result<T, Box<Difference>>;
+
+/// The same area on both sides.
+pub struct Pair {
+    ours: Ours,
+    original: Area,
+    our_area: Area,
+}
+
+impl Pair {
+    pub fn new(ours: Ours) -> Self {
+        // Ours starts at an odd address: document 01 aligns offsets, not addresses.
+        Pair { ours, original: Area::new(CAPACITY, 0), our_area: Area::new(CAPACITY, 1) }
+    }
+
+    pub fn step(&mut self, op: &Op) -> Outcome<Answer> {
+        match *op {
+            Op::Format { len } => {
+                self.original.set_len(len);
+                self.our_area.set_len(len);
+            }
+            Op::Poke { at, word } => {
+                self.original.poke(at, word);
+                self.our_area.poke(at, word);
+                return Ok(Answer::default());
+            }
+            _ => {}
+        }
+        let original = op.perform(&Original, &mut self.original);
+        let ours = op.perform(self.ours.side, &mut self.our_area);
+        // A panic, or an error that stands for no refusal, is never right, not even on both sides.
+        if original.refusal < UNMAPPED && original == ours && self.original.guarded() == self.our_area.guarded() {
+            return Ok(original);
+        }
+        Err(Box::new(Difference { original, ours, bytes: self.differing_bytes() }))
+    }
+
+    fn differing_bytes(&self) -> Vec<(usize, u8, u8)> {
+        let both = self.original.guarded().iter().zip(self.our_area.guarded());
+        both.enumerate().filter(|(_, (a, b))| a != b).map(|(at, (a, b))| (at, *a, *b)).collect()
+    }
+}
+
+/// Plays a case step by step and keeps its steps.
+pub struct Player {
+    pair: Pair,
+    pub log: Vec<Op>,
+    pub counts: Counts,
+}
+
+impl Player {
+    pub fn new(ours: Ours) -> Self {
+        Player { pair: Pair::new(ours), log: Vec::new(), counts: Counts::default() }
+    }
+
+    /// A new case starts with a buffer of zeros.
+    pub fn start(&mut self) {
+        self.log.clear();
+        self.pair.original.clear();
+        self.pair.our_area.clear();
+    }
+
+    pub fn play(&mut self, op: Op) -> Outcome<Answer> {
+        self.log.push(op);
+        let op = &self.log[self.log.len() - 1];
+        let answer = self.pair.step(op);
+        if let Some(kind) = op.kind() {
+            self.counts.add(kind, answer.as_ref().unwrap_or_else(|difference| &difference.original));
+        }
+        answer
+    }
+
+    /// The area as it stands: what comes next may depend on it.
+    pub fn area(&self) -> &Area {
+        &self.pair.original
+    }
+}
