@@ -1,20 +1,17 @@
 -- How far an add moves the used mark, in any area, accepted or refused: by the rooms that it gave, and every length stays.
-use mathlib.Core.Path.{_≡_, refl, sym, ap, _∙_}
-use mathlib.Core.Bool.{true, false}
+use mathlib.Core.Path.{_≡_, refl, _∙_}
 use mathlib.Core.List.{List, [], _∷_, _++_}
 use Prim.Native.Nat.{ℕ, _+_, _-_, _≤_}
-use native.Mathlib.Nat.{add-zero, add-assoc}
 use native.Mathlib.Omega.{arith}
 use borrow.Author.Tests.{ltb-false}
 use lib.Dec.{eqb, ltb}
 use lib.ListN.{length}
 use Rattle.words.specs.Words.{littleBytes}
-use Rattle.words.specs.Stores.{Store, store, run, textStores, wordStore}
+use Rattle.words.specs.Stores.{Store, run, textStores, wordStore}
 use Rattle.words.proofs.Laws.{bool-cases, little-agree, put-length}
 use Rattle.words.proofs.StoreLaws.{run-length, Behind, none, one, behind-append, behind-bytes, run-before}
 use Rattle.words.proofs.Promises.{little-put-same}
 use Rattle.names.specs.Names.{segments}
-use Rattle.layout.specs.declared.refusal.Refusal.{Refusal}
 use Rattle.layout.specs.declared.refusal.Verdict.{Verdict}
 use Rattle.layout.specs.Layout.{wordSize, wordMax, headerSize, byteOf, usedField, nodeSize, nodeTakes, namelenField, propField, leftField, rightField, childrenField}
 use Rattle.layout.specs.Layout.{entryTakes, valueTakes, entrySize, serialField, slotField, slotSize, messageField, longOffsetField, rootAt, dataSize, placeOf, headerWord, wordAt, nodeOk, entryOk}
