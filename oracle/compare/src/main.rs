@@ -10,6 +10,8 @@ mod families;
 #[cfg(feature = "mutants")]
 mod mutation;
 mod op;
+#[cfg(feature = "archive")]
+mod other_bytes;
 mod play;
 mod rng;
 mod shrink;
@@ -17,6 +19,8 @@ mod text;
 mod vectors;
 
 use families::play_case;
+#[cfg(feature = "archive")]
+use other_bytes::OtherBytes;
 use play::{Difference, Ours, Player};
 use std::process::ExitCode;
 use std::time::{Duration, Instant};
@@ -26,9 +30,9 @@ const USAGE: &str = "usage: compare run SIDE MILLIONS SEED
        compare replay SIDE FILE
        compare mutants CALLS SEED    (feature mutants)
        compare vectors FILE SEED     (feature mutants)
-SIDE is twin; archive or mutant-NUMBER with the features of that name.";
+SIDE is twin; archive, bytes or mutant-NUMBER with the features of that name (bytes: archive).";
 
-const TWIN: Ours = Ours { name: "twin", side: &twin::Twin };
+const TWIN: Ours = Ours::against_original("twin", &twin::Twin);
 
 /// Differences that are shown before a run gives up.
 const MOST_SHOWN: usize = 5;
@@ -63,7 +67,14 @@ fn side(name: &str) -> Option<Ours> {
     match name {
         "twin" => Some(TWIN),
         #[cfg(feature = "archive")]
-        "archive" => Some(Ours { name: "archive", side: &archive::Archive }),
+        "archive" => Some(Ours::against_original("archive", &archive::Archive)),
+        #[cfg(feature = "archive")]
+        "bytes" => Some(Ours {
+            name: "archive with bytes that are no UTF-8",
+            side: &OtherBytes(&archive::Archive),
+            judge_name: "twin",
+            judge: &OtherBytes(&twin::Twin),
+        }),
         #[cfg(feature = "mutants")]
         _ => mutation::mutant(name.strip_prefix("mutant-")?.parse().ok()?),
         #[cfg(not(feature = "mutants"))]
@@ -73,7 +84,7 @@ fn side(name: &str) -> Option<Ours> {
 
 /// Plays cases until so many calls are compared.
 fn run(ours: Ours, calls: u64, seed: u64) -> bool {
-    println!("original against {}, seed {seed}", ours.name);
+    println!("{} against {}, seed {seed}", ours.judge_name, ours.name);
     let mut player = Player::new(ours);
     let (mut differences, mut said) = (0, Instant::now());
     for number in 0.. {

@@ -17,7 +17,7 @@ const VECTOR_CALLS: u64 = 2_800;
 const VECTOR_SEARCH: u64 = 300_000;
 
 pub fn mutant(number: usize) -> Option<Ours> {
-    MUTANTS.get(number).map(|(name, side)| Ours { name, side: *side })
+    MUTANTS.get(number).map(|(name, side)| Ours::against_original(name, *side))
 }
 
 fn all() -> impl Iterator<Item = Ours> {

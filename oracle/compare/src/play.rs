@@ -10,27 +10,35 @@ use std::fmt;
 /// The longest area that is tried: a little over document 01's limit.
 pub const CAPACITY: usize = 131_080;
 
-/// The side that is held against the original.
+/// A side, and the one it is held against: the judge, or the twin where the bytes are none the original can be given.
 #[derive(Clone, Copy)]
 pub struct Ours {
     pub name: &'static str,
     pub side: &'static dyn Side,
+    pub judge_name: &'static str,
+    pub judge: &'static dyn Side,
+}
+
+impl Ours {
+    pub const fn against_original(name: &'static str, side: &'static dyn Side) -> Self {
+        Ours { name, side, judge_name: "original", judge: &Original }
+    }
 }
 
 pub struct Difference {
-    original: Answer,
+    judge: Answer,
     ours: Answer,
-    /// Place, the original's byte, ours. A place may lie just behind the area.
+    /// Place, the judge's byte, ours. A place may lie just behind the area.
     bytes: Vec<(usize, u8, u8)>,
 }
 
 impl fmt::Display for Difference {
     fn fmt(&self, f: &mut fmt::Formatter<'_>) -> fmt::Result {
-        writeln!(f, "    original answers {}", self.original)?;
-        writeln!(f, "    ours     answers {}", self.ours)?;
+        writeln!(f, "    judge answers {}", self.judge)?;
+        writeln!(f, "    ours  answers {}", self.ours)?;
         writeln!(f, "    {} bytes differ", self.bytes.len())?;
-        for (at, original, ours) in self.bytes.iter().take(16) {
-            writeln!(f, "    byte {at} (data offset {}): original {original:#04x}, ours {ours:#04x}", *at as i64 - 128)?;
+        for (at, judge, ours) in self.bytes.iter().take(16) {
+            writeln!(f, "    byte {at} (data offset {}): judge {judge:#04x}, ours {ours:#04x}", *at as i64 - 128)?;
         }
         Ok(())
     }
@@ -41,40 +49,40 @@ pub type Outcome<T = ()> = Result<T, Box<Difference>>;
 /// The same area on both sides.
 pub struct Pair {
     ours: Ours,
-    original: Area,
+    judge: Area,
     our_area: Area,
 }
 
 impl Pair {
     pub fn new(ours: Ours) -> Self {
         // Ours starts at an odd address: document 01 aligns offsets, not addresses.
-        Pair { ours, original: Area::new(CAPACITY, 0), our_area: Area::new(CAPACITY, 1) }
+        Pair { ours, judge: Area::new(CAPACITY, 0), our_area: Area::new(CAPACITY, 1) }
     }
 
     pub fn step(&mut self, op: &Op) -> Outcome<Answer> {
         match *op {
             Op::Format { len } => {
-                self.original.set_len(len);
+                self.judge.set_len(len);
                 self.our_area.set_len(len);
             }
             Op::Poke { at, word } => {
-                self.original.poke(at, word);
+                self.judge.poke(at, word);
                 self.our_area.poke(at, word);
                 return Ok(Answer::default());
             }
             _ => {}
         }
-        let original = op.perform(&Original, &mut self.original);
+        let judge = op.perform(self.ours.judge, &mut self.judge);
         let ours = op.perform(self.ours.side, &mut self.our_area);
         // A panic, or an error that stands for no refusal, is never right, not even on both sides.
-        if original.refusal < UNMAPPED && original == ours && self.original.guarded() == self.our_area.guarded() {
-            return Ok(original);
+        if judge.refusal < UNMAPPED && judge == ours && self.judge.guarded() == self.our_area.guarded() {
+            return Ok(judge);
         }
-        Err(Box::new(Difference { original, ours, bytes: self.differing_bytes() }))
+        Err(Box::new(Difference { judge, ours, bytes: self.differing_bytes() }))
     }
 
     fn differing_bytes(&self) -> Vec<(usize, u8, u8)> {
-        let both = self.original.guarded().iter().zip(self.our_area.guarded());
+        let both = self.judge.guarded().iter().zip(self.our_area.guarded());
         both.enumerate().filter(|(_, (a, b))| a != b).map(|(at, (a, b))| (at, *a, *b)).collect()
     }
 }
@@ -94,7 +102,7 @@ impl Player {
     /// A new case starts with a buffer of zeros.
     pub fn start(&mut self) {
         self.log.clear();
-        self.pair.original.clear();
+        self.pair.judge.clear();
         self.pair.our_area.clear();
     }
 
@@ -103,13 +111,13 @@ impl Player {
         let op = &self.log[self.log.len() - 1];
         let answer = self.pair.step(op);
         if let Some(kind) = op.kind() {
-            self.counts.add(kind, answer.as_ref().unwrap_or_else(|difference| &difference.original));
+            self.counts.add(kind, answer.as_ref().unwrap_or_else(|difference| &difference.judge));
         }
         answer
     }
 
     /// The area as it stands: what comes next may depend on it.
     pub fn area(&self) -> &Area {
-        &self.pair.original
+        &self.pair.judge
     }
 }
