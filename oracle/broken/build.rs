@@ -1,28 +1,34 @@
-//! Writes one module for each edit of edits.txt: the twin's text with that one place changed. An edit whose old text does not
-//! stand exactly once in the twin stops the build.
+//! Writes one module for each edit of edits.txt and walk-edits.txt: the twin's text, or the walk's, with that one place changed. An edit
+//! whose old text does not stand exactly once there stops the build.
 
 use std::path::{Path, PathBuf};
 use std::{env, fs, process};
 
 fn main() {
+    let twins = mutants("../twin/src/lib.rs", "edits.txt", "m", "Twin", "MUTANTS: &[(&str, &(dyn calls::Side + Sync))]");
+    let walks =
+        mutants("../walk/src/lib.rs", "walk-edits.txt", "w", "Walk::DOCUMENT", "WALKS: &[(&str, &(dyn calls::Audit + Sync))]");
+    fs::write(folder("OUT_DIR").join("mutants.rs"), twins + &walks).unwrap();
+}
+
+/// The modules, and the table of what each holds under `what`.
+fn mutants(text: &str, edits: &str, letter: &str, what: &str, table: &str) -> String {
     let here = folder("CARGO_MANIFEST_DIR");
-    let twin = read(&here.join("../twin/src/lib.rs"));
-    let edits = read(&here.join("edits.txt"));
-    let out = folder("OUT_DIR");
-    let (mut modules, mut table) = (String::new(), String::new());
+    let (text, edits) = (read(&here.join(text)), read(&here.join(edits)));
+    let (mut modules, mut rows) = (String::new(), String::new());
     let paragraphs = edits.split("\n\n").filter(|paragraph| paragraph.contains("name: "));
     for (number, paragraph) in paragraphs.enumerate() {
         let [name, old, new] = ["name: ", "old: ", "new: "].map(|start| field(paragraph, start));
-        if twin.matches(&old).count() != 1 {
+        if text.matches(&old).count() != 1 {
             stop(&format!("edit `{name}`: `{old}` does not stand exactly once in the twin"));
         }
-        let file = out.join(format!("m{number}.rs"));
-        fs::write(&file, twin.replacen(&old, &new, 1)).unwrap();
-        modules += &format!("#[allow(warnings)]\n#[path = {file:?}]\nmod m{number};\n");
-        table += &format!("    ({name:?}, &m{number}::Twin),\n");
+        let module = format!("{letter}{number}");
+        let file = folder("OUT_DIR").join(format!("{module}.rs"));
+        fs::write(&file, text.replacen(&old, &new, 1)).unwrap();
+        modules += &format!("#[allow(warnings)]\n#[path = {file:?}]\nmod {module};\n");
+        rows += &format!("    ({name:?}, &{module}::{what}),\n");
     }
-    let list = format!("pub static MUTANTS: &[(&str, &(dyn calls::Side + Sync))] = &[\n{table}];\n");
-    fs::write(out.join("mutants.rs"), modules + &list).unwrap();
+    format!("{modules}pub static {table} = &[\n{rows}];\n")
 }
 
 /// The rest of the line that starts so, with its line feeds.

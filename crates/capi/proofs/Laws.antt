@@ -1,5 +1,6 @@
 -- What an answer of the library becomes in C, for each of its cases.
-use mathlib.Core.Path.{_≡_}
+use mathlib.Core.Path.{_≡_, sym, ap, _∙_}
+use mathlib.Core.List.{List}
 use Prim.Native.Nat.{ℕ, _-_}
 use Rattle.layout.specs.declared.refusal.Refusal.{Refusal}
 use Rattle.layout.specs.Refusals.{Answer, numberOf}
@@ -7,9 +8,12 @@ use Rattle.property_area.specs.declared.lookup.Found.{Found}
 use Rattle.property_area.specs.declared.values.Shown.{Shown}
 use Rattle.property_area.specs.Find.{Hit, foundAnswer}
 use Rattle.property_area.specs.Value.{Part, shownAnswer}
+use Rattle.audit.specs.declared.checking.Listed.{Listed}
+use Rattle.audit.specs.Check.{Judged, lists, listedAnswer, listSteps}
+use Rattle.capi.specs.declared.PaCount.{PaCount}
 use Rattle.capi.specs.declared.PaFound.{PaFound}
 use Rattle.capi.specs.declared.PaPart.{PaPart}
-use Rattle.capi.specs.Capi.{foundStruct, partStruct}
+use Rattle.capi.specs.Capi.{foundStruct, partStruct, counts, listingStruct}
 
 abbrev c-found : ℕ → ℕ → ℕ → PaFound
 c-found refusal entry compared = record { refusal = refusal; entry = entry; compared = compared }
@@ -32,3 +36,15 @@ module _ (answer : Answer Part) (s : Shown) (e : shownAnswer s ≡ answer) where
 
   pub part-refused : (why : Refusal) → s ≡ Shown.Refused why → (number : ℕ) → number ≡ numberOf why → c-part number 0 0 ≡ partStruct answer
   part-refused why g number h = rw (← e, g, h)
+
+abbrev c-count : ℕ → ℕ → PaCount
+c-count refusal count = record { refusal = refusal; count = count }
+
+-- r is what listing answered
+module _ (area scratch list : List ℕ) (r : Listed) (a c : List ℕ) (says : (judged : Judged area) → lists (listedAnswer r) a c ≡ listSteps area scratch list judged) where
+  pub list-entries : (n : ℕ) → r ≡ Listed.Entries n → (judged : Judged area) → counts (c-count 0 n) a c ≡ listingStruct (listSteps area scratch list judged)
+  list-entries n g judged = ap (λ (x : Listed). listingStruct (lists (listedAnswer x) a c)) (sym g) ∙ ap listingStruct (says judged)
+
+  pub list-refused : (why : Refusal) → r ≡ Listed.Refused why → (number : ℕ) → number ≡ numberOf why
+      → (judged : Judged area) → counts (c-count number 0) a c ≡ listingStruct (listSteps area scratch list judged)
+  list-refused why g number h judged = rw h (ap (λ (x : Listed). listingStruct (lists (listedAnswer x) a c)) (sym g) ∙ ap listingStruct (says judged))

@@ -1,8 +1,11 @@
 -- The C structs that an answer becomes: refusal 0 and the result, or the refusal's number and zeros.
-use Prim.Native.Nat.{_-_}
+use Prim.Native.Nat.{ℕ, _-_}
+use mathlib.Core.List.{List}
 use Rattle.layout.specs.Refusals.{Answer, accepted, refused, noRefusal}
 use Rattle.property_area.specs.Find.{Hit, hit}
 use Rattle.property_area.specs.Value.{Part, bytes}
+use Rattle.audit.specs.Check.{Listing, lists}
+use Rattle.capi.specs.declared.PaCount.{PaCount}
 use Rattle.capi.specs.declared.PaFound.{PaFound}
 use Rattle.capi.specs.declared.PaPart.{PaPart}
 
@@ -14,3 +17,14 @@ foundStruct (refused number) = record { refusal = number; entry = 0; compared = 
 abbrev pub partStruct : Answer Part → PaPart
 partStruct (accepted (bytes from to)) = record { refusal = noRefusal; start = from; length = to - from }
 partStruct (refused number) = record { refusal = number; start = 0; length = 0 }
+
+-- how many entries, and scratch and list afterwards
+pub data CountListing : Type 0 where
+  counts : PaCount → List ℕ → List ℕ → CountListing
+
+abbrev pub countStruct : Answer ℕ → PaCount
+countStruct (accepted count) = record { refusal = noRefusal; count = count }
+countStruct (refused number) = record { refusal = number; count = 0 }
+
+abbrev pub listingStruct : Listing → CountListing
+listingStruct (lists answer scratch list) = counts (countStruct answer) scratch list

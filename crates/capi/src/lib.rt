@@ -8,8 +8,10 @@ ghost use Rattle.builder.specs.Steps.{outcome};
 ghost use Rattle.builder.specs.Fresh.{formatSteps};
 ghost use Rattle.builder.specs.Add.{addSteps};
 ghost use Rattle.updates.specs.Update.{updateSteps, rawSteps};
+ghost use Rattle.audit.specs.Check.{Judged, checkSteps, listSteps};
 ghost use Rattle.counters.specs.Distance.{distance};
-ghost use Rattle.capi.specs.Capi.{foundStruct, partStruct};
+ghost use Rattle.capi.specs.Capi.{foundStruct, partStruct, counts, listingStruct};
+use audit::Listed;
 use property_area::Found;
 use property_area::Shown;
 
@@ -27,6 +29,13 @@ pub struct PaPart {
     pub refusal: u32,
     pub start: u32,
     pub length: u64,
+}
+
+// Refusal 0: so many entries. Where refused the count is 0.
+#[repr(C)]
+pub struct PaCount {
+    pub refusal: u32,
+    pub count: u32,
 }
 
 #[no_mangle]
@@ -98,6 +107,29 @@ pub extern "C" fn pa_backup_read(area: &[u8], buffer: &mut [u8]) -> u32
     ensures { λ r. ⌜ leaves r (now (buffer .exit)) ≡ backupSteps (now (area .entry)) (now (buffer .entry)) ⌝ }
 {
     property_area::read_dirty_backup(area, buffer).number()
+}
+
+#[no_mangle]
+pub extern "C" fn pa_check(area: &[u8], scratch: &mut [u8]) -> u32
+    ensures { λ r. ⌜ ((judged : Judged (now (area .entry))) → leaves r (now (scratch .exit)) ≡ checkSteps (now (area .entry)) (now (scratch .entry)) judged) ⌝ }
+{
+    audit::check(area, scratch).number()
+}
+
+#[no_mangle]
+pub extern "C" fn pa_list(area: &[u8], scratch: &mut [u8], list: &mut [u32]) -> PaCount
+    ensures { λ r. ⌜ ((judged : Judged (now (area .entry))) → counts r (now (scratch .exit)) (now (list .exit)) ≡ listingStruct (listSteps (now (area .entry)) (now (scratch .entry)) (now (list .entry)) judged)) ⌝ }
+{
+    match audit::list(area, scratch, list) {
+        Listed::Entries(count) => PaCount {
+            refusal: 0,
+            count: count as u32,
+        },
+        Listed::Refused(why) => PaCount {
+            refusal: why.number(),
+            count: 0,
+        },
+    }
 }
 
 #[no_mangle]

@@ -1,2 +1,3 @@
 pub mod Laws
+pub mod OrderLaws
 pub mod Promises

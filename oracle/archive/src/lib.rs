@@ -1,6 +1,6 @@
-//! The proved archive behind the eight calls: bindings/c/property_area.h, seen from Rust.
+//! The proved archive behind the eight calls, and behind check and listing: bindings/c/property_area.h, seen from Rust.
 
-use calls::{Found, Part, Side};
+use calls::{Audit, Count, Found, Part, Side};
 
 /// What C sees of a slice: a pointer and a number of bytes.
 type Bytes = *const u8;
@@ -24,6 +24,8 @@ extern "C" {
     ) -> u32;
     fn pa_backup_read(area: Bytes, area_len: usize, buffer: BytesMut, buffer_len: usize) -> u32;
     fn pa_update_distance(earlier: u32, later: u32) -> u32;
+    fn pa_check(area: Bytes, area_len: usize, scratch: BytesMut, scratch_len: usize) -> u32;
+    fn pa_list(area: Bytes, area_len: usize, scratch: BytesMut, scratch_len: usize, list: *mut u32, places: usize) -> Count;
 }
 
 /// A slice of no bytes goes out as NULL: the archive says that this is allowed.
@@ -35,18 +37,18 @@ fn start(bytes: &[u8]) -> Bytes {
     }
 }
 
-fn start_mut(bytes: &mut [u8]) -> BytesMut {
-    if bytes.is_empty() {
+fn start_mut<T>(lent: &mut [T]) -> *mut T {
+    if lent.is_empty() {
         std::ptr::null_mut()
     } else {
-        bytes.as_mut_ptr()
+        lent.as_mut_ptr()
     }
 }
 
 pub struct Archive;
 
-// SAFETY, of every call below: each pointer leads to as many bytes as the length beside it says, NULL goes with length 0, and
-// Rust's borrows see to it that what is written overlaps nothing else. The archive asks for no more.
+// SAFETY, of every call below: each pointer leads to as many bytes (in a list: words) as the length beside it says, NULL goes with
+// length 0, and Rust's borrows see to it that what is written overlaps nothing else. The archive asks for no more.
 impl Side for Archive {
     fn format(&self, area: &mut [u8]) -> u32 {
         unsafe { pa_format(start_mut(area), area.len()) }
@@ -78,5 +80,15 @@ impl Side for Archive {
 
     fn update_distance(&self, earlier: u32, later: u32) -> u32 {
         unsafe { pa_update_distance(earlier, later) }
+    }
+}
+
+impl Audit for Archive {
+    fn check(&self, area: &mut [u8], scratch: &mut [u8]) -> u32 {
+        unsafe { pa_check(start(area), area.len(), start_mut(scratch), scratch.len()) }
+    }
+
+    fn list(&self, area: &mut [u8], scratch: &mut [u8], list: &mut [u32]) -> Count {
+        unsafe { pa_list(start(area), area.len(), start_mut(scratch), scratch.len(), start_mut(list), list.len()) }
     }
 }

@@ -1,4 +1,4 @@
-//! The eight calls that are compared, as one interface.
+//! The calls that are compared, as two interfaces: the eight that the original is held against, and check and listing.
 //!
 //! A side is whatever answers them: the original, the proved archive, the plain twin, a twin broken on purpose.
 //! Numbers are document 01's: 0 is accepted, any other is a refusal. Offsets of entries count from byte 128.
@@ -22,6 +22,14 @@ pub struct Part {
     pub length: u64,
 }
 
+/// Answer of listing. Where refused the count is 0.
+#[repr(C)]
+#[derive(Clone, Copy, Debug, Default, PartialEq, Eq)]
+pub struct Count {
+    pub refusal: u32,
+    pub count: u32,
+}
+
 /// Not in document 01: the call ended in an error that stands for no refusal.
 pub const UNMAPPED: u32 = 254;
 /// Not in document 01: the call panicked.
@@ -38,4 +46,10 @@ pub trait Side {
     fn raw_update(&self, area: &mut [u8], entry: u32, backup: &[u8], value: &[u8]) -> u32;
     fn backup_read(&self, area: &mut [u8], buffer: &mut [u8]) -> u32;
     fn update_distance(&self, earlier: u32, later: u32) -> u32;
+}
+
+/// Check and listing, which the original does not have. They are lent the area for writing too, so that a store would be noticed.
+pub trait Audit {
+    fn check(&self, area: &mut [u8], scratch: &mut [u8]) -> u32;
+    fn list(&self, area: &mut [u8], scratch: &mut [u8], list: &mut [u32]) -> Count;
 }

@@ -1,0 +1,5 @@
+pub mod Cover
+pub mod Focus
+pub mod Rules
+pub mod Joining
+pub mod SoundPut

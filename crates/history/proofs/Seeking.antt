@@ -1,0 +1,130 @@
+-- The entry that a path of segments leads to, and how a lookup answers by it: 3 where there is none, else its offset and the nodes compared.
+use Prim.Native.Nat.{ℕ, _+_}
+use native.Mathlib.Nat.{add-zero, add-assoc}
+use native.Mathlib.Omega.{arith}
+use mathlib.Core.Path.{_≡_, refl, sym, ap, _∙_}
+use mathlib.Core.Logic.{_⊎_}
+use mathlib.Core.Bool.{true, false}
+use mathlib.Core.List.{List, [], _∷_, _++_}
+use lib.Dec.{eqb}
+use lib.ListN.{length}
+use borrow.Author.Tests.{eqb-true}
+use Rattle.words.proofs.Laws.{bool-cases}
+use Rattle.names.specs.Names.{dot, segmentOrder}
+use Rattle.names.specs.declared.Order.{Order}
+use Rattle.names.specs.declared.Order.the-variants.{Less, Equal, Greater}
+use Rattle.names.proofs.Promises.{order-equal}
+use Rattle.layout.specs.declared.refusal.Refusal.{Refusal}
+use Rattle.layout.specs.Refusals.{Answer, accepted, refused, refuse, numberOf}
+use Rattle.property_area.specs.Find.{Hit, hit}
+use Rattle.builder.specs.Add.{anyEmpty}
+use Rattle.sound.specs.Tree.{Value, Entry, bare, entry, Tree, leaf, node}
+use Rattle.sound.specs.Sound.{TreeRule}
+use Rattle.sound.specs.Ways.{toLeft, toRight, toward, reached}
+use Rattle.lookup.specs.Look.{turn, spot, compares, ownAnswer, byNode, look}
+use Rattle.lookup.proofs.Costs.{costs, Counts, look-counts}
+
+-- from a node with its entry and what hangs below it; bare if there is none
+unfoldable pub seek : List (List ℕ) → Entry → Tree → Entry
+seek [] own below = own
+seek (segment ∷ rest) own below = byNode (reached below (spot segment below)) bare (λ next under. seek rest next under)
+
+-- one node of the search
+pub seek-node : (segment : List ℕ) (rest : List (List ℕ)) (above : Entry) (at : ℕ) (name : List ℕ) (own : Entry) (left below right : Tree)
+    → seek (segment ∷ rest) above (node at name own left below right)
+    ≡ turn (segmentOrder segment name) (seek rest own below) (seek (segment ∷ rest) above left) (seek (segment ∷ rest) above right)
+unfolding seek spot reached toward
+seek-node segment rest above at name own left below right = by (segmentOrder segment name)
+  where
+    by : (order : Order)
+        → byNode (reached (node at name own left below right) (turn order [] (toLeft ∷ spot segment left) (toRight ∷ spot segment right))) bare (λ next under. seek rest next under)
+        ≡ turn order (seek rest own below) (byNode (reached left (spot segment left)) bare (λ next under. seek rest next under))
+        (byNode (reached right (spot segment right)) bare (λ next under. seek rest next under))
+    by Equal = refl
+    by Less = refl
+    by Greater = refl
+
+-- ---- no segment is empty
+pub look-seek : (segs : List (List ℕ)) (own : Entry) (below : Tree) (compared : ℕ) → anyEmpty segs ≡ false
+    → look segs own below compared ≡ ownAnswer (seek segs own below) (compared + costs segs below)
+unfolding look seek costs anyEmpty
+look-seek [] own below compared full = rw add-zero
+look-seek (segment ∷ rest) own below compared full =
+    bool-cases (eqb (length segment) 0)
+    (λ t. let k : true ≡ false = rw t at full in absurd (let q : _≡_ {A = ℕ} 0 1 = cc in omega arith))
+    (λ t. rw t (by (reached below (spot segment below)) (λ next under more. look-seek rest next under more (rw t at full))))
+  where
+    by : (end : Tree)
+        → ((next : Entry) (under : Tree) (more : ℕ) → look rest next under more ≡ ownAnswer (seek rest next under) (more + costs rest under))
+        → byNode end (refuse Refusal.Missing) (λ next under. look rest next under (compared + compares segment below))
+        ≡ ownAnswer (byNode end bare (λ next under. seek rest next under)) (compared + (compares segment below + byNode end 0 (λ next under. costs rest under)))
+    by leaf on = unfold ownAnswer in refl
+    by (node at name next left under right) on =
+        on next under (compared + compares segment below) ∙ ap (ownAnswer (seek rest next under)) (add-assoc compared (compares segment below) (costs rest under))
+
+pub look-none : (segs : List (List ℕ)) (own : Entry) (below : Tree) (compared : ℕ) → anyEmpty segs ≡ false → seek segs own below ≡ bare
+    → look segs own below compared ≡ refuse Refusal.Missing
+unfolding ownAnswer
+look-none segs own below compared full is = look-seek segs own below compared full ∙ rw is
+
+pub look-some : (segs : List (List ℕ)) (own : Entry) (below : Tree) (compared at serial : ℕ) (name : List ℕ) (value : Value) → anyEmpty segs ≡ false
+    → seek segs own below ≡ entry at serial name value → look segs own below compared ≡ accepted (hit at (compared + costs segs below))
+unfolding ownAnswer
+look-some segs own below compared at serial name value full is = look-seek segs own below compared full ∙ rw is
+
+-- ---- what is found is the entry there
+abbrev pub IsAt : ℕ → Entry → Type 0
+IsAt at own = (serial : ℕ) × (name : List ℕ) × (value : Value) × (own ≡ entry at serial name value)
+
+own-found : (own : Entry) (compared at count : ℕ) → ownAnswer own compared ≡ accepted (hit at count) → IsAt at own
+unfolding ownAnswer
+own-found bare compared at count e = absurd (let q : _≡_ {A = ℕ} 0 1 = cc in omega arith)
+own-found (entry from serial name value) compared at count e = (serial, name, value, let same : from ≡ at = cc in rw same)
+
+pub seek-found : (segs : List (List ℕ)) (own : Entry) (below : Tree) (compared at count : ℕ)
+    → look segs own below compared ≡ accepted (hit at count) → IsAt at (seek segs own below)
+unfolding look seek
+seek-found [] own below compared at count e = own-found own compared at count e
+seek-found (segment ∷ rest) own below compared at count e =
+    bool-cases (eqb (length segment) 0)
+    (λ t. let k : refuse Refusal.EmptySegment ≡ accepted (hit at count) = rw t at e in absurd (let q : _≡_ {A = ℕ} 0 1 = cc in omega arith))
+    (λ t. by (reached below (spot segment below)) (rw t at e) (seek-found rest))
+  where
+    by : (end : Tree) → byNode end (refuse Refusal.Missing) (λ next under. look rest next under (compared + compares segment below)) ≡ accepted (hit at count)
+        → ((next : Entry) (under : Tree) (more at count : ℕ) → look rest next under more ≡ accepted (hit at count) → IsAt at (seek rest next under))
+        → IsAt at (byNode end bare (λ next under. seek rest next under))
+    by leaf e on = absurd (let q : _≡_ {A = ℕ} 0 1 = cc in omega arith)
+    by (node place name next left under right) e on = on next under (compared + compares segment below) at count e
+
+-- ---- some segment is empty: no node has that name
+pub seek-empty : (below : Tree) (prefix : List ℕ) (segs : List (List ℕ)) (own : Entry) → TreeRule prefix below → anyEmpty segs ≡ true → seek segs own below ≡ bare
+unfolding TreeRule anyEmpty
+seek-empty below prefix [] own rule some = absurd (let q : _≡_ {A = ℕ} 0 1 = cc in omega arith)
+seek-empty leaf prefix (segment ∷ rest) own rule some = unfold seek spot reached in refl
+seek-empty (node at name next left under right) prefix (segment ∷ rest) own rule some =
+    seek-node segment rest own at name next left under right
+    ∙ by (segmentOrder segment name) refl (seek-empty under (prefix ++ name ++ dot ∷ []) rest next (rule .5))
+    (seek-empty left prefix (segment ∷ rest) own (rule .4) some) (seek-empty right prefix (segment ∷ rest) own (rule .6) some)
+  where
+    by : (order : Order) → segmentOrder segment name ≡ order → (anyEmpty rest ≡ true → seek rest next under ≡ bare)
+        → seek (segment ∷ rest) own left ≡ bare → seek (segment ∷ rest) own right ≡ bare
+        → turn order (seek rest next under) (seek (segment ∷ rest) own left) (seek (segment ∷ rest) own right) ≡ bare
+    by Less is on l r = l
+    by Greater is on l r = r
+    by Equal is on l r =
+        bool-cases (eqb (length segment) 0)
+        (λ t. absurd (omega (arith, eqb-true (length segment) 0 t, ap length (order-equal segment name is), rule .0 .some)))
+        (λ t. on (rw t at some))
+
+pub look-empty : (segs : List (List ℕ)) (prefix : List ℕ) (own : Entry) (below : Tree) (compared : ℕ) → TreeRule prefix below → anyEmpty segs ≡ true
+    → (number : ℕ) × (look segs own below compared ≡ refused number) × ((number ≡ numberOf Refusal.Missing) ⊎ (number ≡ numberOf Refusal.EmptySegment))
+look-empty segs prefix own below compared rule some =
+    by (look segs own below compared) refl (look-counts segs own below compared (compared + costs segs below) refl)
+  where
+    by : (answer : Answer Hit) → look segs own below compared ≡ answer → Counts (compared + costs segs below) answer
+        → (number : ℕ) × (answer ≡ refused number) × ((number ≡ numberOf Refusal.Missing) ⊎ (number ≡ numberOf Refusal.EmptySegment))
+    by (refused number) e counts = (number, refl, counts)
+    by (accepted (hit at count)) e counts =
+        let found = seek-found segs own below compared at count e in
+        let none : bare ≡ entry at (found .0) (found .1) (found .2) = sym (seek-empty below prefix segs own rule some) ∙ found .3 in
+        absurd (let q : _≡_ {A = ℕ} 0 1 = cc in omega arith)

@@ -1,0 +1,79 @@
+-- The history (demand 3): adds and updates by name, what a run of them leaves, and what a lookup ought to show.
+use Prim.Native.Nat.{ℕ}
+use mathlib.Core.Bool.{cond, _&&_}
+use mathlib.Core.List.{List, [], _∷_, _++_}
+use mathlib.Core.Option.{Option, none, some}
+use lib.ListN.{length, take}
+use lib.Dec.{eqb}
+use Rattle.words.specs.Words.{part, firstIn, sameBytes}
+use Rattle.layout.specs.Refusals.{Answer, accepted, refused, noRefusal, Outcome, leaves}
+use Rattle.property_area.specs.Find.{Hit, hit, findSteps}
+use Rattle.property_area.specs.Value.{Part, bytes, valueSteps}
+use Rattle.builder.specs.Steps.{Step, goes, stops, outcome}
+use Rattle.builder.specs.Add.{addSteps}
+use Rattle.updates.specs.Update.{updateSteps}
+
+-- a call: its name, its value
+pub data Op : Type 0 where
+  add : List ℕ → List ℕ → Op
+  update : List ℕ → List ℕ → Op
+
+-- by the call's own definition
+abbrev pub call : List ℕ → Op → Outcome
+call area (add name value) = outcome (addSteps area name value)
+call area (update name value) = updateSteps area name value
+
+abbrev pub numberIn : Outcome → ℕ
+numberIn (leaves number area) = number
+
+abbrev pub bytesIn : Outcome → List ℕ
+bytesIn (leaves number area) = area
+
+-- the area after a run of calls, refused ones included
+unfoldable pub after : List ℕ → List Op → List ℕ
+after area [] = area
+after area (op ∷ ops) = after (bytesIn (call area op)) ops
+
+-- ---- what a lookup shows: find, then value
+abbrev pub shownPart : List ℕ → Answer Part → Answer (List ℕ)
+shownPart area (accepted (bytes from to)) = accepted (part area from to)
+shownPart area (refused number) = refused number
+
+abbrev pub shownHit : List ℕ → Answer Hit → Answer (List ℕ)
+shownHit area (accepted (hit at compared)) = shownPart area (valueSteps area at)
+shownHit area (refused number) = refused number
+
+unfoldable pub shown : List ℕ → List ℕ → Answer (List ℕ)
+shown area name = shownHit area (findSteps area name)
+
+-- ---- what it ought to show: the value of a name's last accepted update, or else of its first accepted add, up to its first zero byte
+abbrev pub upToZero : List ℕ → List ℕ
+upToZero value = take (firstIn 0 value 0 (length value)) value
+
+abbrev pub opName : Op → List ℕ
+opName (add name value) = name
+opName (update name value) = name
+
+-- an accepted call of that name, after what was told before
+abbrev pub hear : Op → Option (List ℕ) → Option (List ℕ)
+hear (add name value) none = some (upToZero value)
+hear (add name value) (some before) = some before
+hear (update name value) before = some (upToZero value)
+
+unfoldable pub told : List ℕ → List ℕ → List Op → Option (List ℕ) → Option (List ℕ)
+told area name [] before = before
+told area name (op ∷ ops) before =
+    told (bytesIn (call area op)) name ops (cond (eqb (numberIn (call area op)) noRefusal && sameBytes (opName op) name) (hear op before) before)
+
+-- ---- the rooms that were given to objects, those of refused adds included
+abbrev pub roomsIn : Step → List ℕ
+roomsIn (goes at area rooms) = rooms
+roomsIn (stops number area rooms) = rooms
+
+abbrev pub opRooms : List ℕ → Op → List ℕ
+opRooms area (add name value) = roomsIn (addSteps area name value)
+opRooms area (update name value) = []
+
+unfoldable pub given : List ℕ → List Op → List ℕ
+given area [] = []
+given area (op ∷ ops) = opRooms area op ++ given (bytesIn (call area op)) ops

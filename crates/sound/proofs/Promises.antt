@@ -1,0 +1,48 @@
+-- What soundness promises, in document 01's words ("Area check and listing"). Objects are the linked nodes, entries and long values (Objects.antt).
+use Prim.Native.Nat.{ℕ, _-_, _≤_}
+use native.Mathlib.Omega.{arith}
+use mathlib.Core.Path.{_≡_, refl, sym, _∙_}
+use mathlib.Core.List.{List, []}
+use Rattle.layout.specs.Layout.{firstFree, byteOf}
+use Rattle.sound.specs.Tree.{Tree, cover}
+use Rattle.sound.specs.Sound.{Room, Sound}
+use Rattle.sound.specs.Ways.{Dir, reached}
+use Rattle.sound.proofs.Inside.{inside-most, inside-low}
+use Rattle.sound.proofs.Objects.{objects, Each, Apart, Between, Aligned, tree-covers, apart-of, between-of, room-of, tree-aligned}
+use Rattle.sound.proofs.OnePath.{TopAt, one-way}
+use Rattle.sound.proofs.OneTree.{Behind, one-below}
+
+once : (used : ℕ) (tree : Tree) → Room used tree → (i : ℕ) → cover tree i ≤ 1
+once used tree room i = omega (arith, room i, inside-most (byteOf firstFree) (used - firstFree) i)
+
+behind : (used : ℕ) (tree : Tree) → Room used tree → Behind (cover tree)
+behind used tree room i h = inside-low (byteOf firstFree) (used - firstFree) i (omega (arith, room i))
+
+-- ---- every object, with any name and its zero, padded, lies between 112 and used; no two of these share a byte
+pub room-says : (used : ℕ) (tree : Tree) → firstFree ≤ used → Room used tree → Apart (objects tree) × Each (Between used) (objects tree)
+room-says used tree low room = (
+  apart-of (objects tree) (λ i. omega (arith, tree-covers tree i, once used tree room i)),
+  between-of used low (objects tree) (λ i. omega (arith, tree-covers tree i, room i)),
+)
+
+-- and Room says no more than that
+pub room-is : (used : ℕ) (tree : Tree) → firstFree ≤ used → Apart (objects tree) → Each (Between used) (objects tree) → Room used tree
+room-is used tree low apart between i = omega (arith, tree-covers tree i, room-of used low (objects tree) apart between i)
+
+module _ (area : List ℕ) (used : ℕ) where
+  -- ---- every object starts at a multiple of 4
+  pub all-aligned : (tree : Tree) → Sound area used tree → Each Aligned (objects tree)
+  all-aligned tree sound = tree-aligned [] tree (sound .rule)
+
+  -- ---- each node has one path: ways that reach a node at the same offset are the same way
+  pub one-path : (tree : Tree) → Sound area used tree → (v w : List Dir) (at : ℕ) → TopAt (reached tree v) at → TopAt (reached tree w) at → v ≡ w
+  one-path tree sound v w at p q = one-way v w tree at (once used tree (sound .room)) p q
+
+  -- ---- an area holds one tree at most
+  pub one-tree : (s t : Tree) → Sound area used s → Sound area used t → s ≡ t
+  one-tree s t x y =
+      one-below area [] [] s t refl (sym (x .top) ∙ y .top) (behind used s (x .room)) (behind used t (y .room)) (x .bytes) (y .bytes) (x .rule) (y .rule)
+
+-- ---- and has one used mark
+pub one-mark : (area : List ℕ) (used other : ℕ) (s t : Tree) → Sound area used s → Sound area other t → used ≡ other
+one-mark area used other s t x y = sym (x .front .mark) ∙ y .front .mark

@@ -1,0 +1,14 @@
+pub mod Growing
+pub mod MarkLaws
+pub mod RecordLaws
+pub mod NodeLaws
+pub mod Entering
+pub mod Scanning
+pub mod Paths
+pub mod Works
+pub mod WorksBack
+pub mod MachineLaws
+pub mod FrontLaws
+pub mod Made
+pub mod Passing
+pub mod Deciding

@@ -1,0 +1,3 @@
+pub mod Marks
+pub mod Machine
+pub mod Model

@@ -1,0 +1,58 @@
+//! Document 01's settled examples, as far as they say what check and listing answer, and each refusal once.
+
+use calls::{Audit, Count, Side};
+use checker::{survey, Checker, Fault};
+use twin::Twin;
+
+const CHECKER: Checker = Checker::DOCUMENT;
+
+/// The second example: fresh 4,096 bytes, "ab.c"="12", then "b"="q".
+fn second() -> Vec<u8> {
+    let mut area = vec![0; 4_096];
+    assert_eq!(Twin.format(&mut area), 0);
+    assert_eq!(Twin.add(&mut area, b"ab.c", b"12"), 0);
+    assert_eq!(Twin.add(&mut area, b"b", b"q"), 0);
+    area
+}
+
+fn list(area: &mut [u8], scratch: &mut [u8], list: &mut [u32]) -> (u32, u32) {
+    let Count { refusal, count } = CHECKER.list(area, scratch, list);
+    (refusal, count)
+}
+
+#[test]
+fn the_second_example_is_listed_as_its_dump_shows() {
+    let (mut area, mut scratch, mut places) = (second(), [7; 1_024], [9; 3]);
+    assert_eq!(list(&mut area, &mut scratch, &mut places), (0, 2));
+    assert_eq!(places, [288, 160, 9]);
+    assert_eq!(scratch, [0; 1_024]);
+}
+
+#[test]
+fn a_fresh_area_is_sound() {
+    let mut area = vec![0; 240];
+    assert_eq!(Twin.format(&mut area), 0);
+    assert_eq!(CHECKER.check(&mut area, &mut [7; 60]), 0);
+}
+
+#[test]
+fn a_long_value_is_sound() {
+    let mut area = vec![0; 460];
+    assert_eq!(Twin.format(&mut area), 0);
+    assert_eq!(Twin.add(&mut area, b"a", &[b'v'; 92]), 0);
+    assert_eq!(survey(&area), Ok(vec![136]));
+}
+
+#[test]
+fn refusals_come_in_their_order() {
+    let (mut area, mut scratch) = (second(), [7; 1_024]);
+    assert_eq!(CHECKER.check(&mut area[..127], &mut []), 8);
+    assert_eq!(list(&mut area, &mut scratch[1..], &mut []), (10, 0));
+    assert_eq!(scratch, [7; 1_024]);
+    assert_eq!(list(&mut area, &mut scratch, &mut [9]), (10, 0));
+    assert_eq!(scratch, [0; 1_024]);
+    // The first node's left link leads to itself.
+    area[128 + 112 + 8..][..4].copy_from_slice(&112_u32.to_le_bytes());
+    assert_eq!(list(&mut area, &mut scratch, &mut []), (5, 0));
+    assert_eq!(survey(&area), Err(Fault::NodeShares));
+}
