@@ -25,21 +25,14 @@ use Rattle.sound.proofs.Framing.{word-frame}
 use Rattle.growth.specs.Plug.{plug}
 use Rattle.growth.proofs.Rules.{prefixAt, rule-there}
 use Rattle.lookup.proofs.NodeReads.{node-touched, prop-word, own-room, entry-lies}
+use Rattle.history.specs.Lack.{entryNeeds}
 use Rattle.history.specs.History.{upToZero}
 use Rattle.history.proofs.Storing.{Changed, changed-then}
 use Rattle.history.proofs.NodeLaid.{WordSet}
 use Rattle.history.proofs.EntryLaid.{ShortLaid, short-laid, up-takes, LongLaid, long-laid}
-use Rattle.history.proofs.Rooms.{room-given, room-none, room-large}
+use Rattle.history.proofs.Rooms.{room-given, room-full}
 use Rattle.history.proofs.EntryHung.{data-small, mark-set, mark-moved, node-stands, entry-hung}
-use Rattle.history.proofs.EntryAdded.{entryNeeds, fullNumber, Laid, EntryAdded, kept, added, noEntry, noValue, rooms-short, rooms-long, needs-short, needs-long}
-
--- room that is refused, with either number
-room-full : (area : List ℕ) (room used : ℕ) → headerWord area usedField ≡ used → dataSize area < used + room → allocate area room ≡ stops (fullNumber (used + room)) area []
-unfolding fullNumber
-room-full area room used mark past =
-    bool-cases (ltb wordMax (used + room))
-    (λ t. rw t (room-large area room used mark (ltb-true wordMax (used + room) t)))
-    (λ t. rw t (room-none area room used mark (ltb-false wordMax (used + room) t) past))
+use Rattle.history.proofs.EntryAdded.{Laid, EntryAdded, kept, added, noEntry, noValue, rooms-short, rooms-long, needs-short, needs-long}
 
 module _ (area : List ℕ) (used : ℕ) (tree : Tree) (way : List Dir) (at : ℕ) (name : List ℕ) (left below right : Tree)
     (there : reached tree way ≡ node at name bare left below right) (sound : Sound area used tree)

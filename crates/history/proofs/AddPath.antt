@@ -21,16 +21,11 @@ use Rattle.sound.specs.Ways.{Dir, toBelow, reached}
 use Rattle.growth.proofs.Joining.{reached-append}
 use Rattle.lookup.specs.Look.{spot, byNode}
 use Rattle.lookup.proofs.Spelling.{namesTo}
+use Rattle.history.specs.Lack.{fullNumber, missing}
 use Rattle.history.proofs.Stood.{Stood, atRoot, atNode, above, above-names}
-use Rattle.history.proofs.NodeHung.{NameRule, spotAt, fullNumber}
+use Rattle.history.proofs.NodeHung.{NameRule, spotAt}
 use Rattle.history.proofs.Hung.{Hung, same, hung-then}
 use Rattle.history.proofs.Segment.{Further, further-there, segment-full, further-hung}
-
--- the room that a path of segments lacks: none while their nodes are found; from the first that is missing on, that of all
-unfoldable pub missing : List (List ℕ) → Tree → ℕ
-missing [] tree = 0
-missing (segment ∷ rest) tree =
-    byNode (reached tree (spot segment tree)) (nodeTakes (length segment) + missing rest leaf) (λ own below. missing rest below)
 
 abbrev pub AllNamed : List (List ℕ) → Type 0
 AllNamed [] = Unit {0}
@@ -65,10 +60,6 @@ module _ (area : List ℕ) (used : ℕ) (tree : Tree) (v : List Dir) (parent : �
     pub size : length after ≡ length area
     pub sound : Sound after (used + total rooms) now
     pub hung : Hung tree now
-
-pub full-number : (grown : ℕ) → (fullNumber grown ≡ numberOf Refusal.NoRoom) ⊎ (fullNumber grown ≡ numberOf Refusal.TooLarge)
-unfolding fullNumber
-full-number grown = bool-cases (ltb wordMax grown) (λ t. rw t (inr refl)) (λ t. rw t (inl refl))
 
 -- ---- one segment, and the rest from there
 module _ (area : List ℕ) (used : ℕ) (tree : Tree) (v : List Dir) (parent : ℕ) (segment : List ℕ) (rest : List (List ℕ)) (taken : ℕ) (siblings : Tree)

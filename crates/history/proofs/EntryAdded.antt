@@ -18,18 +18,8 @@ use Rattle.sound.specs.Sound.{Sound}
 use Rattle.sound.specs.Ways.{Dir}
 use Rattle.growth.specs.Plug.{plug}
 use Rattle.lookup.proofs.ValueReads.{shows}
+use Rattle.history.specs.Lack.{entryNeeds, entryRooms, fullNumber}
 use Rattle.history.specs.History.{upToZero}
-
--- ---- what a missing entry takes: its own room, and one more for a value of 92 bytes or more
-unfoldable pub entryRooms : List ℕ → List ℕ → List ℕ
-entryRooms name value = entryTakes (length name) ∷ cond (ltb (length value) slotSize) [] (valueTakes (length value) ∷ [])
-
-unfoldable pub entryNeeds : List ℕ → List ℕ → ℕ
-entryNeeds name value = total (entryRooms name value)
-
--- the refusal for want of room: too large for a word, or past the area
-unfoldable pub fullNumber : ℕ → ℕ
-fullNumber grown = cond (ltb wordMax grown) (numberOf Refusal.TooLarge) (numberOf Refusal.NoRoom)
 
 -- the serial and value of an entry just laid: it shows the value up to its first zero
 unfoldable pub Laid : ℕ → List ℕ → List ℕ → ℕ → Value → Type 0

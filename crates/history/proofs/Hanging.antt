@@ -12,7 +12,8 @@ use Rattle.growth.specs.Plug.{hang, plug}
 use Rattle.growth.proofs.Rules.{prefixAt, Placed}
 use Rattle.growth.proofs.Joining.{Along, along-placed, reached-plug}
 use Rattle.lookup.specs.Look.{turn, spot}
-use Rattle.history.proofs.Seeking.{seek, seek-node}
+use Rattle.history.specs.Lack.{seek}
+use Rattle.history.proofs.Seeking.{seek-node}
 
 -- ---- where the search of a segment ends
 pub spot-placed : (segment : List ℕ) (tree : Tree) → Placed segment tree (spot segment tree)

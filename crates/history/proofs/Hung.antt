@@ -6,7 +6,7 @@ use Rattle.sound.specs.Tree.{Entry, bare, Tree, leaf, node}
 use Rattle.sound.specs.Sound.{NodeRule}
 use Rattle.sound.specs.Ways.{Dir, reached}
 use Rattle.growth.specs.Plug.{plug}
-use Rattle.history.proofs.Seeking.{seek}
+use Rattle.history.specs.Lack.{seek}
 use Rattle.history.proofs.Hanging.{seek-hang}
 use Rattle.history.proofs.Stood.{Stood}
 use Rattle.history.proofs.NodeHung.{spotAt}

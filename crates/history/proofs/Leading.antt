@@ -16,7 +16,8 @@ use Rattle.growth.proofs.Rules.{prefixAt, Placed, rule-plug-own}
 use Rattle.growth.proofs.Joining.{Along, along-reached, reached-plug}
 use Rattle.lookup.specs.Look.{turn, spot}
 use Rattle.lookup.proofs.Spelling.{ownOf, namesTo, one-name, spells}
-use Rattle.history.proofs.Seeking.{seek, seek-node}
+use Rattle.history.specs.Lack.{seek}
+use Rattle.history.proofs.Seeking.{seek-node}
 use Rattle.history.proofs.Owning.{seek-new, seek-others, seek-own}
 
 -- ---- a node with its entry, at the end of a way with these names

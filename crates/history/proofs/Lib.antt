@@ -18,3 +18,9 @@ pub mod EntryHung
 pub mod EntryAdded
 pub mod AddEntry
 pub mod UpdateSound
+pub mod Naming
+pub mod Showing
+pub mod AddSound
+pub mod Next
+pub mod Run
+pub mod Promises

@@ -30,8 +30,9 @@ use Rattle.growth.proofs.Rules.{prefixAt, reached-rule, rule-hang}
 use Rattle.growth.proofs.Joining.{plug-append}
 use Rattle.growth.proofs.SoundPut.{topPlace, front-grown, sound-plug}
 use Rattle.lookup.specs.Look.{spot}
+use Rattle.history.specs.Lack.{fullNumber}
 use Rattle.history.proofs.NodeLaid.{WordSet, link-set, NodeLaid, node-laid}
-use Rattle.history.proofs.Rooms.{room-given, room-none, room-large}
+use Rattle.history.proofs.Rooms.{room-given, room-full}
 use Rattle.history.proofs.Hanging.{spot-placed}
 use Rattle.history.proofs.Stood.{Stood, stood-rule}
 
@@ -73,10 +74,6 @@ hung-size area used l segment =
     run-length (laidBytes area used segment) (wordStore (byteOf l) used ∷ [])
     ∙ run-length (givenBytes area used segment) (nodeStores used segment) ∙ run-length area (wordStore usedField (used + nodeTakes (length segment)) ∷ [])
 
--- the refusal for want of room
-unfoldable pub fullNumber : ℕ → ℕ
-fullNumber grown = cond (ltb wordMax grown) (numberOf Refusal.TooLarge) (numberOf Refusal.NoRoom)
-
 module _ (area : List ℕ) (used : ℕ) (tree : Tree) (sound : Sound area used tree) where
   -- a byte of the tree, or of the link to it
   counted-lies : (i : ℕ) → 1 ≤ inside topPlace wordSize i + cover tree i → (topPlace ≤ i) × (i < byteOf used)
@@ -107,11 +104,8 @@ module _ (area : List ℕ) (used : ℕ) (tree : Tree) (sound : Sound area used t
     room = nodeTakes (length segment)
 
     pub hang-full : dataSize area < used + nodeTakes (length segment) → hangNode area l segment ≡ stops (fullNumber (used + nodeTakes (length segment))) area []
-    unfolding hangNode newNode fullNumber
-    hang-full full =
-        bool-cases (ltb wordMax (used + room))
-        (λ t. rw (t, room-large area room used (sound .front .mark) (ltb-true wordMax (used + room) t)))
-        (λ t. rw (t, room-none area room used (sound .front .mark) (ltb-false wordMax (used + room) t) full))
+    unfolding hangNode newNode
+    hang-full full = rw (room-full area room used (sound .front .mark) full)
 
     module _ (fits : used + nodeTakes (length segment) ≤ dataSize area) where
       abbrev given : List ℕ

@@ -13,7 +13,8 @@ use Rattle.sound.specs.Sound.{Side, TreeRule}
 use Rattle.sound.specs.Ways.{Dir, toLeft, toBelow, toRight, toward, reached}
 use Rattle.growth.specs.Plug.{hang, plug}
 use Rattle.lookup.proofs.Spelling.{namesTo}
-use Rattle.history.proofs.Seeking.{seek, seek-node}
+use Rattle.history.specs.Lack.{seek}
+use Rattle.history.proofs.Seeking.{seek-node}
 use Rattle.history.proofs.Hanging.{seek-alike}
 
 -- ---- one node of the search of some names, by the order of the first

@@ -1,14 +1,19 @@
 -- Room asked for, by the used mark: it is given, or it is refused and nothing changes.
 use Prim.Native.Nat.{ℕ, _+_, _≤_, _<_}
 use native.Mathlib.Omega.{arith}
-use mathlib.Core.Path.{_≡_}
+use mathlib.Core.Path.{_≡_, refl}
+use mathlib.Core.Logic.{_⊎_, inl, inr}
 use mathlib.Core.List.{List, [], _∷_}
-use borrow.Author.Tests.{lt-ltb, le-ltb}
+use lib.Dec.{ltb}
+use borrow.Author.Tests.{lt-ltb, le-ltb, ltb-true, ltb-false}
+use Rattle.words.proofs.Laws.{bool-cases}
 use Rattle.words.specs.Stores.{run, wordStore}
 use Rattle.layout.specs.declared.refusal.Refusal.{Refusal}
 use Rattle.layout.specs.Layout.{wordMax, usedField, dataSize, headerWord}
-use Rattle.builder.specs.Steps.{goes, stopBy}
+use Rattle.layout.specs.Refusals.{numberOf}
+use Rattle.builder.specs.Steps.{goes, stops, stopBy}
 use Rattle.builder.specs.Allocate.{allocate}
+use Rattle.history.specs.Lack.{fullNumber}
 
 module _ (area : List ℕ) (room used : ℕ) (mark : headerWord area usedField ≡ used) where
   pub room-given : dataSize area ≤ wordMax → used + room ≤ dataSize area
@@ -23,3 +28,15 @@ module _ (area : List ℕ) (room used : ℕ) (mark : headerWord area usedField �
   pub room-large : wordMax < used + room → allocate area room ≡ stopBy area Refusal.TooLarge
   unfolding allocate
   room-large large = rw (mark, lt-ltb wordMax (used + room) large)
+
+  -- room that is refused, with either number
+  pub room-full : dataSize area < used + room → allocate area room ≡ stops (fullNumber (used + room)) area []
+  unfolding fullNumber
+  room-full past =
+      bool-cases (ltb wordMax (used + room))
+      (λ t. rw t (room-large (ltb-true wordMax (used + room) t)))
+      (λ t. rw t (room-none (ltb-false wordMax (used + room) t) past))
+
+pub full-number : (grown : ℕ) → (fullNumber grown ≡ numberOf Refusal.NoRoom) ⊎ (fullNumber grown ≡ numberOf Refusal.TooLarge)
+unfolding fullNumber
+full-number grown = bool-cases (ltb wordMax grown) (λ t. rw t (inr refl)) (λ t. rw t (inl refl))

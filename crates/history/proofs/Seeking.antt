@@ -23,11 +23,7 @@ use Rattle.sound.specs.Sound.{TreeRule}
 use Rattle.sound.specs.Ways.{toLeft, toRight, toward, reached}
 use Rattle.lookup.specs.Look.{turn, spot, compares, ownAnswer, byNode, look}
 use Rattle.lookup.proofs.Costs.{costs, Counts, look-counts}
-
--- from a node with its entry and what hangs below it; bare if there is none
-unfoldable pub seek : List (List ℕ) → Entry → Tree → Entry
-seek [] own below = own
-seek (segment ∷ rest) own below = byNode (reached below (spot segment below)) bare (λ next under. seek rest next under)
+use Rattle.history.specs.Lack.{seek}
 
 -- one node of the search
 pub seek-node : (segment : List ℕ) (rest : List (List ℕ)) (above : Entry) (at : ℕ) (name : List ℕ) (own : Entry) (left below right : Tree)

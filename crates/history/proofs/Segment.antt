@@ -27,9 +27,10 @@ use Rattle.lookup.specs.Look.{turn, spot, compares}
 use Rattle.lookup.proofs.NodeReads.{Standing, node-lies}
 use Rattle.lookup.proofs.Searching.{linkPlace as linkOffset, endsAt, searchEnd, search-siblings, segment-siblings}
 use Rattle.lookup.proofs.LookWays.{spot-named}
+use Rattle.history.specs.Lack.{fullNumber}
 use Rattle.history.proofs.Hanging.{spot-along}
 use Rattle.history.proofs.Stood.{Stood, atNode, stood-along, stood-place, stands-at, stood-touched, above, above-append, above-plug}
-use Rattle.history.proofs.NodeHung.{NameRule, node-rule, spotAt, hungBytes, hung-size, fullNumber, hang-full, hang-goes, hang-sound}
+use Rattle.history.proofs.NodeHung.{NameRule, node-rule, spotAt, hungBytes, hung-size, hang-full, hang-goes, hang-sound}
 use Rattle.history.proofs.Hung.{Hung, same, more}
 
 -- ---- the offset and the byte place of the link to what a way reaches

@@ -25,6 +25,7 @@ use Rattle.growth.proofs.SoundPut.{sound-slot}
 use Rattle.lookup.proofs.NodeReads.{Standing, entry-lies, own-room}
 use Rattle.lookup.proofs.Spelling.{ownOf}
 use Rattle.lookup.proofs.Promises.{find-refusals, found-own}
+use Rattle.history.specs.Lack.{missing}
 use Rattle.history.specs.History.{numberIn, upToZero}
 use Rattle.history.proofs.Updated.{ShortUpdated, is-short, update-tests, updated}
 use Rattle.history.proofs.EntryHung.{node-stands}

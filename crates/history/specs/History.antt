@@ -1,12 +1,15 @@
 -- The history (demand 3): adds and updates by name, what a run of them leaves, and what a lookup ought to show.
 use Prim.Native.Nat.{ℕ}
-use mathlib.Core.Bool.{cond, _&&_}
+use mathlib.Core.Path.{_≡_}
+use mathlib.Core.Logic.{_⊎_}
+use mathlib.Core.Bool.{Bool, cond, _&&_}
 use mathlib.Core.List.{List, [], _∷_, _++_}
 use mathlib.Core.Option.{Option, none, some}
 use lib.ListN.{length, take}
 use lib.Dec.{eqb}
 use Rattle.words.specs.Words.{part, firstIn, sameBytes}
-use Rattle.layout.specs.Refusals.{Answer, accepted, refused, noRefusal, Outcome, leaves}
+use Rattle.layout.specs.declared.refusal.Refusal.{Refusal}
+use Rattle.layout.specs.Refusals.{Answer, accepted, refused, refuse, noRefusal, Outcome, leaves}
 use Rattle.property_area.specs.Find.{Hit, hit, findSteps}
 use Rattle.property_area.specs.Value.{Part, bytes, valueSteps}
 use Rattle.builder.specs.Steps.{Step, goes, stops, outcome}
@@ -60,10 +63,32 @@ hear (add name value) none = some (upToZero value)
 hear (add name value) (some before) = some before
 hear (update name value) before = some (upToZero value)
 
+-- it was accepted, and is of that name
+abbrev pub heeded : List ℕ → List ℕ → Op → Bool
+heeded area name op = eqb (numberIn (call area op)) noRefusal && sameBytes (opName op) name
+
 unfoldable pub told : List ℕ → List ℕ → List Op → Option (List ℕ) → Option (List ℕ)
 told area name [] before = before
-told area name (op ∷ ops) before =
-    told (bytesIn (call area op)) name ops (cond (eqb (numberIn (call area op)) noRefusal && sameBytes (opName op) name) (hear op before) before)
+told area name (op ∷ ops) before = told (bytesIn (call area op)) name ops (cond (heeded area name op) (hear op before) before)
+
+-- what was shown before the run
+abbrev pub asShown : Answer (List ℕ) → Option (List ℕ)
+asShown (accepted value) = some value
+asShown (refused number) = none
+
+-- told a value, a lookup shows it; told none, it is refused as missing (3) or malformed (2)
+abbrev pub Shows : Answer (List ℕ) → Option (List ℕ) → Type 0
+Shows answer (some value) = answer ≡ accepted value
+Shows answer none = (answer ≡ refuse Refusal.Missing) ⊎ (answer ≡ refuse Refusal.EmptySegment)
+
+-- ---- the lengths of the values of a name's accepted updates
+abbrev pub sizeIn : Op → List ℕ
+sizeIn (add name value) = []
+sizeIn (update name value) = length value ∷ []
+
+unfoldable pub updateSizes : List ℕ → List ℕ → List Op → List ℕ
+updateSizes area name [] = []
+updateSizes area name (op ∷ ops) = cond (heeded area name op) (sizeIn op) [] ++ updateSizes (bytesIn (call area op)) name ops
 
 -- ---- the rooms that were given to objects, those of refused adds included
 abbrev pub roomsIn : Step → List ℕ

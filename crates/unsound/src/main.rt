@@ -241,12 +241,7 @@ fn values(area: &mut [u8]) {
 fn values_more(area: &mut [u8]) {
     word(area, b"a value far away", 472, 0xffff_fffc);
     word(area, b"a value in another entry", 472, 196);
-    bytes(
-        area,
-        b"a value has no zero before the next object",
-        604,
-        b"x",
-    );
+    bytes(area, b"a value is longer, into its padding", 604, b"x");
     word(
         area,
         b"a value has no zero before the next object",

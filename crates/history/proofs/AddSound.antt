@@ -1,0 +1,155 @@
+-- An add over a sound area: it is refused for its name or for want of room, or accepted; the area is sound again, and only the entry of its own name can be new.
+use Prim.Native.Nat.{ℕ, _+_, _-_, _≤_, _<_}
+use native.Mathlib.Omega.{arith}
+use native.Mathlib.Decide.{decLt}
+use mathlib.Core.Path.{_≡_, refl, sym, ap, subst, _∙_}
+use mathlib.Core.Logic.{_≢_, _⊎_}
+use mathlib.Core.List.{List, [], _∷_, _++_}
+use lib.ListN.{length}
+use Rattle.names.specs.Names.{segments}
+use Rattle.layout.specs.declared.refusal.Refusal.{Refusal}
+use Rattle.layout.specs.declared.refusal.Verdict.{Verdict}
+use Rattle.layout.specs.Layout.{dataSize, rootAt}
+use Rattle.layout.specs.Refusals.{numberOf}
+use Rattle.builder.specs.Steps.{Step, goes, stops, stopBy, andThen, withRooms}
+use Rattle.builder.specs.Nodes.{addPath}
+use Rattle.builder.specs.Entries.{addEntry}
+use Rattle.builder.specs.Add.{nameVerdict, addSteps}
+use Rattle.builder.proofs.Used.{total}
+use Rattle.sound.specs.Tree.{Value, Entry, bare, entry, Tree, node}
+use Rattle.sound.specs.Sound.{Sound}
+use Rattle.sound.specs.Ways.{reached}
+use Rattle.growth.specs.Plug.{plug}
+use Rattle.growth.proofs.Rules.{prefixAt}
+use Rattle.lookup.proofs.Spelling.{one-name}
+use Rattle.lookup.proofs.ValueReads.{shows}
+use Rattle.history.specs.History.{upToZero}
+use Rattle.history.specs.Lack.{seek, entryOf, missing, entryNeeds, ownLacks, lacks, fullNumber}
+use Rattle.history.proofs.Rooms.{full-number}
+use Rattle.history.proofs.Leading.{names-spelled, finds-own, finds-new, finds-others}
+use Rattle.history.proofs.Stood.{atRoot, above}
+use Rattle.history.proofs.Hung.{Hung, hung-seek}
+use Rattle.history.proofs.AddPath.{Went, Halted, path-goes, path-halts, NodeThere, stood-node}
+use Rattle.history.proofs.EntryAdded.{EntryAdded, kept, added, noEntry, noValue, needs-least, laid-shows}
+use Rattle.history.proofs.AddEntry.{add-entry}
+use Rattle.history.proofs.Naming.{all-named, segments-some}
+
+-- every name leads to the entry that it led to
+abbrev pub Alike : Tree → Tree → Type 0
+Alike tree now = (segs : List (List ℕ)) (own : Entry) → seek segs own now ≡ seek segs own tree
+
+pub data AddDone (area : List ℕ) (used : ℕ) (tree : Tree) (name value : List ℕ) (step : Step) : Type 0 where
+  -- the name is no name: nothing changed
+  badName : (why : Refusal) → nameVerdict name ≡ Verdict.Refused why → step ≡ stopBy area why → AddDone area used tree name value step
+  -- there is not room for all that is lacking
+  noRoom : (number : ℕ) (b rooms : List ℕ) (grown : ℕ) (now : Tree) → nameVerdict name ≡ Verdict.Accepted → dataSize area < used + lacks tree name value
+      → step ≡ stops number b rooms → (number ≡ numberOf Refusal.NoRoom) ⊎ (number ≡ numberOf Refusal.TooLarge) → Sound b grown now → Alike tree now
+      → AddDone area used tree name value step
+  -- it has an entry already
+  stays : (at : ℕ) (b rooms : List ℕ) (grown : ℕ) (now : Tree) (serial : ℕ) (v : Value) → nameVerdict name ≡ Verdict.Accepted → used + lacks tree name value ≤ dataSize area
+      → step ≡ goes at b rooms → entryOf tree name ≡ entry at serial name v → Sound b grown now → Alike tree now → AddDone area used tree name value step
+  -- it has one now, which shows the value
+  adds : (at : ℕ) (b rooms : List ℕ) (grown : ℕ) (now : Tree) (serial : ℕ) (v : Value) → nameVerdict name ≡ Verdict.Accepted → used + lacks tree name value ≤ dataSize area
+      → step ≡ goes at b rooms → entryOf tree name ≡ bare → Sound b grown now → entryOf now name ≡ entry at serial name v → shows v ≡ upToZero value
+      → ((other : List ℕ) → other ≢ name → entryOf now other ≡ entryOf tree other) → AddDone area used tree name value step
+
+lacks-bare : (tree : Tree) (name value : List ℕ) → entryOf tree name ≡ bare → lacks tree name value ≡ missing (segments name) tree + entryNeeds name value
+unfolding ownLacks
+lacks-bare tree name value e = rw e refl
+
+lacks-some : (tree : Tree) (name value : List ℕ) (at serial : ℕ) (full : List ℕ) (v : Value) → entryOf tree name ≡ entry at serial full v → lacks tree name value ≡ missing (segments name) tree + 0
+unfolding ownLacks
+lacks-some tree name value at serial full v e = rw e refl
+
+module _ (area : List ℕ) (used : ℕ) (tree : Tree) (sound : Sound area used tree) (name value : List ℕ) where
+  module _ (named : nameVerdict name ≡ Verdict.Accepted) where
+    steps : Step
+    steps = andThen (addPath area (segments name) rootAt) (λ at after. addEntry after name value at)
+
+    steps-are : steps ≡ addSteps area name value
+    unfolding steps addSteps
+    steps-are = rw (sound .front .header, named) refl
+
+    -- the walk did not come to its end
+    halted : Halted area used tree [] rootAt (segments name) → dataSize area < used + missing (segments name) tree → AddDone area used tree name value (addSteps area name value)
+    unfolding steps
+    halted H full =
+        noRoom (H .number) (H .after) (H .rooms) (used + total (H .rooms)) (H .now) named (omega (arith, full))
+        (sym steps-are ∙ ap (λ (s : Step). andThen s (λ at after. addEntry after name value at)) (H .is))
+        (subst (λ (k : ℕ). (k ≡ numberOf Refusal.NoRoom) ⊎ (k ≡ numberOf Refusal.TooLarge)) (sym (H .why)) (full-number (used + total (H .rooms) + H .wanted)))
+        (H .sound) (hung-seek tree (H .now) (H .hung))
+
+    -- it did: at a node with that name for its path
+    module _ (W : Went area used tree [] rootAt (segments name)) (fits : used + missing (segments name) tree ≤ dataSize area) where
+      there : NodeThere (W .now) (W .at) (segments name)
+      unfolding above
+      there = stood-node (W .now) (W .way) (W .at) (segments name) (W .stood) (W .names) (segments-some name)
+
+      abbrev full : List ℕ
+      full = prefixAt [] (W .now) (there .way) ++ there .name
+
+      whole : name ≡ full
+      whole = one-name name full
+          (sym (names-spelled (W .at) (there .name) (there .own) (there .left) (there .below) (there .right) (there .way) (W .now) (there .there) (W .sound .rule) ∙ there .names))
+
+      same : Alike tree (W .now)
+      same = hung-seek tree (W .now) (W .hung)
+
+      has : entryOf tree name ≡ there .own
+      has = sym (same (segments name) bare) ∙ ap (λ (n : List ℕ). seek (segments n) bare (W .now)) whole
+          ∙ finds-own (W .at) (there .name) (there .own) (there .left) (there .below) (there .right) (there .way) (W .now) (there .there) (W .sound .rule)
+
+      onEntry : (s : Step) → addEntry (W .after) name value (W .at) ≡ s → addSteps area name value ≡ withRooms (W .rooms) s
+      unfolding steps
+      onEntry s e = sym steps-are ∙ ap (λ (x : Step). andThen x (λ at after. addEntry after name value at)) (W .is) ∙ ap (withRooms (W .rooms)) e
+
+      size : dataSize (W .after) ≡ dataSize area
+      size = ap (λ (k : ℕ). k - 128) (W .size)
+
+      sized : total (W .rooms) ≡ missing (segments name) tree
+      unfolding reached
+      sized = W .given
+
+      by : EntryAdded (W .after) (used + total (W .rooms)) (W .now) (there .way) (W .at) (there .name) (there .own) (there .left) (there .below) (there .right) name value
+          (addEntry (W .after) name value (W .at)) → AddDone area used tree name value (addSteps area name value)
+      by (kept far serial v own is) =
+          stays far (W .after) (W .rooms ++ []) (used + total (W .rooms)) (W .now) serial v named
+          (omega (arith, fits, lacks-some tree name value far serial name v (has ∙ own))) (onEntry _ is) (has ∙ own) (W .sound) same
+      by (added b serial v own room is S laid) =
+          let new : Entry = entry (used + total (W .rooms)) serial name v in
+          adds (used + total (W .rooms)) b _ (used + total (W .rooms) + entryNeeds name value)
+          (plug (W .now) (there .way) (node (W .at) (there .name) new (there .left) (there .below) (there .right))) serial v named
+          (omega (arith, room, sized, lacks-bare tree name value (has ∙ own), size)) (onEntry _ is) (has ∙ own) S
+          (ap (λ (n : List ℕ). seek (segments n) bare (plug (W .now) (there .way) (node (W .at) (there .name) new (there .left) (there .below) (there .right)))) whole
+          ∙ finds-new (W .at) (there .name) (there .own) (there .left) (there .below) (there .right) (there .way) (W .now) (there .there) (W .sound .rule) new)
+          (laid-shows (used + total (W .rooms)) name value serial v laid)
+          (λ other differs. finds-others (W .at) (there .name) (there .own) (there .left) (there .below) (there .right) (there .way) (W .now) (there .there) (W .sound .rule) new other
+          (λ e. differs (e ∙ sym whole)) ∙ same (segments other) bare)
+      by (noEntry own over is) =
+          noRoom _ (W .after) _ (used + total (W .rooms)) (W .now) named
+          (omega (arith, over, sized, lacks-bare tree name value (has ∙ own), needs-least name value, size)) (onEntry _ is) (full-number _) (W .sound) same
+      by (noValue b own room over is S) =
+          noRoom _ b _ _ (W .now) named (omega (arith, over, sized, lacks-bare tree name value (has ∙ own), size)) (onEntry _ is) (full-number _) S same
+
+      went : AddDone area used tree name value (addSteps area name value)
+      went = by (add-entry (W .after) (used + total (W .rooms)) (W .now) (there .way) (W .at) (there .name) (there .own) (there .left) (there .below) (there .right) (there .there) (W .sound) name value whole)
+
+    accepted-name : AddDone area used tree name value (addSteps area name value)
+    unfolding reached
+    accepted-name = on (decLt (dataSize area) (used + missing (segments name) tree))
+      where
+        on : Dec (dataSize area < used + missing (segments name) tree) → AddDone area used tree name value (addSteps area name value)
+        on (yes over) = halted (path-halts (segments name) area used tree [] rootAt sound atRoot (all-named name named) over) over
+        on (no less) = let fits : used + missing (segments name) tree ≤ dataSize area = omega arith in
+            went (path-goes (segments name) area used tree [] rootAt sound atRoot (all-named name named) fits) fits
+
+  refused-name : (why : Refusal) → nameVerdict name ≡ Verdict.Refused why → AddDone area used tree name value (addSteps area name value)
+  unfolding addSteps
+  refused-name why e = badName why e (rw (sound .front .header, e) refl)
+
+  pub add-sound : AddDone area used tree name value (addSteps area name value)
+  add-sound = on (nameVerdict name) refl
+    where
+      on : (v : Verdict) → nameVerdict name ≡ v → AddDone area used tree name value (addSteps area name value)
+      on Verdict.Accepted e = accepted-name e
+      on (Verdict.Refused why) e = refused-name why e

@@ -1,0 +1,167 @@
+-- The name's verdict, told by its segments: it is accepted if and only if each may name a node. So a name that is refused is no entry's.
+use Prim.Native.Nat.{ℕ, zero, suc}
+use native.Mathlib.Omega.{arith}
+use mathlib.Core.Path.{_≡_, refl, subst}
+use mathlib.Core.Logic.{_≢_, _⊎_, inl, inr}
+use mathlib.Core.Bool.{true, false}
+use mathlib.Core.List.{List, [], _∷_, _++_}
+use lib.Dec.{eqb}
+use lib.ListN.{length}
+use borrow.Author.Tests.{ltb-true, ltb-false, ne-eqb, eqb-true, eqb-false}
+use Rattle.words.specs.Words.{firstIn, hasZero}
+use Rattle.words.proofs.Laws.{bool-cases}
+use Rattle.words.proofs.Promises.{first-none, first-there}
+use Rattle.names.specs.Names.{dot, onFirst, segments}
+use Rattle.layout.specs.declared.refusal.Refusal.{Refusal}
+use Rattle.layout.specs.declared.refusal.Verdict.{Verdict}
+use Rattle.builder.specs.Add.{anyEmpty, nameVerdict}
+use Rattle.sound.specs.Tree.{Entry, bare, entry, Tree, leaf, node}
+use Rattle.sound.specs.Sound.{Without, NodeRule, TreeRule}
+use Rattle.sound.specs.Ways.{Dir, toLeft, toBelow, toRight}
+use Rattle.lookup.proofs.Spelling.{namesTo}
+use Rattle.history.specs.Lack.{seek}
+use Rattle.history.proofs.Leading.{seek-leads}
+use Rattle.history.proofs.NodeHung.{NameRule}
+use Rattle.history.proofs.AddPath.{AllNamed}
+
+-- ---- the two tests of a verdict
+module _ (name : List ℕ) where
+  accepted-tests : nameVerdict name ≡ Verdict.Accepted → (hasZero name ≡ false) × (anyEmpty (segments name) ≡ false)
+  unfolding nameVerdict
+  accepted-tests e =
+      bool-cases (hasZero name)
+      (λ t. let k : Verdict.Refused Refusal.ZeroByte ≡ Verdict.Accepted = rw t at e in absurd (let q : _≡_ {A = ℕ} 0 1 = cc in omega arith))
+      (λ t. bool-cases (anyEmpty (segments name))
+      (λ u. let k : Verdict.Refused Refusal.EmptySegment ≡ Verdict.Accepted = rw (t, u) at e in absurd (let q : _≡_ {A = ℕ} 0 1 = cc in omega arith))
+      (λ u. (t, u)))
+
+  pub none-empty : nameVerdict name ≡ Verdict.Accepted → anyEmpty (segments name) ≡ false
+  none-empty e = accepted-tests e .1
+
+  pub verdict-refused : (why : Refusal) → nameVerdict name ≡ Verdict.Refused why → (why ≡ Refusal.ZeroByte) ⊎ (why ≡ Refusal.EmptySegment)
+  unfolding nameVerdict
+  verdict-refused why e =
+      bool-cases (hasZero name)
+      (λ t. let k : Verdict.Refused Refusal.ZeroByte ≡ Verdict.Refused why = rw t at e in inl cc)
+      (λ t. bool-cases (anyEmpty (segments name))
+      (λ u. let k : Verdict.Refused Refusal.EmptySegment ≡ Verdict.Refused why = rw (t, u) at e in inr cc)
+      (λ u. let k : Verdict.Accepted ≡ Verdict.Refused why = rw (t, u) at e in absurd (let q : _≡_ {A = ℕ} 0 1 = cc in omega arith)))
+
+  -- the scan for a zero
+  zero-none : hasZero name ≡ false → Without 0 name
+  zero-none t k l = first-none 0 name 0 (length name) k (omega arith) (omega (arith, ltb-false (firstIn 0 name 0 (length name)) (length name) t))
+
+  none-zero : Without 0 name → hasZero name ≡ false
+  none-zero whole =
+      bool-cases (hasZero name)
+      (λ t.
+      let l = ltb-true (firstIn 0 name 0 (length name)) (length name) t in
+      absurd (whole (firstIn 0 name 0 (length name)) l (first-there 0 name 0 (length name) (omega (arith, l)))))
+      (λ t. t)
+
+-- ---- there is a segment at least
+pub segments-some : (name : List ℕ) → segments name ≢ []
+unfolding segments
+segments-some [] e = let q : _≡_ {A = ℕ} 0 1 = cc in omega arith
+segments-some (x ∷ xs) e =
+    bool-cases (eqb x dot)
+    (λ t. let k : [] ∷ segments xs ≡ [] = rw t at e in let q : _≡_ {A = ℕ} 0 1 = cc in omega arith)
+    (λ t. by (segments xs) (rw t at e))
+  where
+    by : (segs : List (List ℕ)) → onFirst x segs ≢ []
+    by [] k = let q : _≡_ {A = ℕ} 0 1 = cc in omega arith
+    by (segment ∷ rest) k = let q : _≡_ {A = ℕ} 0 1 = cc in omega arith
+
+-- ---- segments without zeros and dots: those of a name without zeros
+abbrev Clean : List (List ℕ) → Type 0
+Clean [] = Unit {0}
+Clean (segment ∷ rest) = Without 0 segment × Without dot segment × Clean rest
+
+none-without : (b : ℕ) → Without b []
+none-without b k l = absurd (omega arith)
+
+more-without : (b x : ℕ) (s : List ℕ) → x ≢ b → Without b s → Without b (x ∷ s)
+more-without b x s first rest zero l = first
+more-without b x s first rest (suc k) l = rest k (omega arith)
+
+less-without : (b x : ℕ) (s : List ℕ) → Without b (x ∷ s) → Without b s
+less-without b x s all k l = all (suc k) (omega arith)
+
+clean-more : (x : ℕ) (segs : List (List ℕ)) → x ≢ 0 → x ≢ dot → Clean segs → Clean (onFirst x segs)
+clean-more x [] whole plain clean = (more-without 0 x [] whole (none-without 0), more-without dot x [] plain (none-without dot), tt)
+clean-more x (segment ∷ rest) whole plain clean = (more-without 0 x segment whole (clean .0), more-without dot x segment plain (clean .1), clean .2)
+
+clean-less : (x : ℕ) (segs : List (List ℕ)) → Clean (onFirst x segs) → (x ≢ 0) × Clean segs
+clean-less x [] clean = (clean .0 0 (omega arith), tt)
+clean-less x (segment ∷ rest) clean =
+    (clean .0 0 (omega arith), (less-without 0 x segment (clean .0), less-without dot x segment (clean .1), clean .2))
+
+whole-clean : (name : List ℕ) → Without 0 name → Clean (segments name)
+unfolding segments
+whole-clean [] whole = (none-without 0, none-without dot, tt)
+whole-clean (x ∷ xs) whole =
+    let clean = whole-clean xs (less-without 0 x xs whole) in
+    bool-cases (eqb x dot)
+    (λ t. rw t (none-without 0, none-without dot, clean))
+    (λ t. rw t (clean-more x (segments xs) (whole 0 (omega arith)) (eqb-false x dot t) clean))
+
+clean-whole : (name : List ℕ) → Clean (segments name) → Without 0 name
+unfolding segments
+clean-whole [] clean = none-without 0
+clean-whole (x ∷ xs) clean =
+    bool-cases (eqb x dot)
+    (λ t. let rest : Without 0 [] × Without dot [] × Clean (segments xs) = rw t at clean in
+    more-without 0 x xs (λ z. omega (arith, eqb-true x dot t)) (clean-whole xs (rest .2)))
+    (λ t. let less = clean-less x (segments xs) (rw t at clean) in more-without 0 x xs (less .0) (clean-whole xs (less .1)))
+
+-- ---- a name is accepted if and only if each of its segments may name a node
+clean-named : (segs : List (List ℕ)) → Clean segs → anyEmpty segs ≡ false → AllNamed segs
+unfolding anyEmpty
+clean-named [] clean full = tt
+clean-named (segment ∷ rest) clean full =
+    bool-cases (eqb (length segment) 0)
+    (λ t. let k : true ≡ false = rw t at full in absurd (let q : _≡_ {A = ℕ} 0 1 = cc in omega arith))
+    (λ t. (
+      record { some = omega (arith, eqb-false (length segment) 0 t); whole = clean .0; plain = clean .1 },
+      clean-named rest (clean .2) (rw t at full),
+    ))
+
+named-clean : (segs : List (List ℕ)) → AllNamed segs → Clean segs
+named-clean [] named = tt
+named-clean (segment ∷ rest) named = (named .0 .whole, named .0 .plain, named-clean rest (named .1))
+
+named-full : (segs : List (List ℕ)) → AllNamed segs → anyEmpty segs ≡ false
+unfolding anyEmpty
+named-full [] named = refl
+named-full (segment ∷ rest) named = rw (ne-eqb (length segment) 0 (λ e. omega (arith, named .0 .some)), named-full rest (named .1))
+
+pub all-named : (name : List ℕ) → nameVerdict name ≡ Verdict.Accepted → AllNamed (segments name)
+all-named name e =
+    let tests = accepted-tests name e in
+    clean-named (segments name) (whole-clean name (zero-none name (tests .0))) (tests .1)
+
+pub named-accepted : (name : List ℕ) → AllNamed (segments name) → nameVerdict name ≡ Verdict.Accepted
+unfolding nameVerdict
+named-accepted name named = rw (none-zero name (clean-whole name (named-clean (segments name) named)), named-full (segments name) named)
+
+-- ---- the nodes on a way are so named: a name that is not leads to no entry
+node-named : (at : ℕ) (name : List ℕ) → NodeRule at name → NameRule name
+node-named at name rule = record { some = rule .some; whole = rule .whole; plain = rule .plain }
+
+ways-named : (way : List Dir) (prefix : List ℕ) (tree : Tree) → TreeRule prefix tree → AllNamed (namesTo tree way)
+unfolding TreeRule namesTo
+ways-named way prefix leaf rule = tt
+ways-named [] prefix (node at name own left below right) rule = (node-named at name (rule .0), tt)
+ways-named (toLeft ∷ way) prefix (node at name own left below right) rule = ways-named way prefix left (rule .4)
+ways-named (toBelow ∷ way) prefix (node at name own left below right) rule =
+    (node-named at name (rule .0), ways-named way (prefix ++ name ++ dot ∷ []) below (rule .5))
+ways-named (toRight ∷ way) prefix (node at name own left below right) rule = ways-named way prefix right (rule .6)
+
+pub zero-unseen : (tree : Tree) → TreeRule [] tree → (name : List ℕ) → nameVerdict name ≢ Verdict.Accepted → seek (segments name) bare tree ≡ bare
+zero-unseen tree rule name refused = by (seek (segments name) bare tree) refl
+  where
+    by : (own : Entry) → seek (segments name) bare tree ≡ own → own ≡ bare
+    by bare e = refl
+    by (entry at serial full value) e =
+        let there = seek-leads at serial full value (segments name) tree e in
+        absurd (refused (named-accepted name (subst AllNamed (there .names) (ways-named (there .way) [] tree rule))))
