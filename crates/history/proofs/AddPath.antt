@@ -57,6 +57,7 @@ module _ (area : List ℕ) (used : ℕ) (tree : Tree) (v : List Dir) (parent : �
     pub is : addPath area segs parent ≡ stops number after rooms
     pub why : number ≡ fullNumber (used + total rooms + wanted)
     pub full : dataSize area < used + total rooms + wanted
+    pub within : total rooms + wanted ≤ missing segs (reached tree v)
     pub size : length after ≡ length area
     pub sound : Sound after (used + total rooms) now
     pub hung : Hung tree now
@@ -85,9 +86,9 @@ module _ (area : List ℕ) (used : ℕ) (tree : Tree) (v : List Dir) (parent : �
         names = w .names ∙ ap (λ (t : List (List ℕ)). t ++ rest) (f .names) ∙ append-assoc (above tree v) (segment ∷ []) rest;
       }
 
-  halted-then : Halted (f .after) (used + taken) (f .now) (spotAt tree v segment ++ toBelow ∷ []) (f .at) rest → Halted area used tree v parent (segment ∷ rest)
+  halted-then : taken + missing rest siblings ≡ missing (segment ∷ rest) (reached tree v) → Halted (f .after) (used + taken) (f .now) (spotAt tree v segment ++ toBelow ∷ []) (f .at) rest → Halted area used tree v parent (segment ∷ rest)
   unfolding addPath
-  halted-then w =
+  halted-then lacks w =
       let e : used + total (f .rooms ++ w .rooms) ≡ used + taken + total (w .rooms) = omega (arith, f .adds (w .rooms)) in
       record {
         number = w .number;
@@ -98,6 +99,7 @@ module _ (area : List ℕ) (used : ℕ) (tree : Tree) (v : List Dir) (parent : �
         is = rw (f .is, w .is);
         why = rw e (w .why);
         full = omega (arith, f .size, w .full);
+        within = omega (arith, f .adds (w .rooms), w .within, ap (missing rest) (f .under));
         size = w .size ∙ f .size;
         sound = rw e (w .sound);
         hung = hung-then tree (f .now) (w .now) (f .hung) (w .hung);
@@ -155,7 +157,7 @@ path-halts (segment ∷ rest) area used tree v parent sound stood named full =
     by (reached tree (spotAt tree v segment)) refl (decLt (dataSize area) (used + nodeTakes (length segment))) (λ fits.
     let first = first-goes area used tree v parent segment rest (reached tree (spotAt tree v segment)) refl sound stood (named .0) fits in
     let f = first .2 in
-    halted-then area used tree v parent segment rest (first .0) (first .1) f
+    halted-then area used tree v parent segment rest (first .0) (first .1) f (first .3)
     (path-halts rest (f .after) (used + first .0) (f .now) (spotAt tree v segment ++ toBelow ∷ []) (f .at) (f .sound) (f .stood) (named .1)
     (omega (arith, first .3, f .size, ap (missing rest) (f .under)))))
   where
@@ -171,6 +173,7 @@ path-halts (segment ∷ rest) area used tree v parent sound stood named full =
       is = rw (segment-full area used tree v parent segment sound stood (named .0) e over);
       why = rw (add-zero used);
       full = omega arith;
+      within = omega (arith, missing-by area used tree v parent segment rest leaf e);
       size = refl;
       sound = rw (add-zero used) sound;
       hung = same tree;

@@ -3,13 +3,13 @@ use Prim.Native.Nat.{ℕ, _+_, _-_, _≤_, _<_}
 use native.Mathlib.Omega.{arith}
 use native.Mathlib.Decide.{decLt}
 use mathlib.Core.Path.{_≡_, refl, sym, ap, subst, _∙_}
-use mathlib.Core.Logic.{_≢_, _⊎_}
+use mathlib.Core.Logic.{_≢_}
 use mathlib.Core.List.{List, [], _∷_, _++_}
 use lib.ListN.{length}
 use Rattle.names.specs.Names.{segments}
 use Rattle.layout.specs.declared.refusal.Refusal.{Refusal}
 use Rattle.layout.specs.declared.refusal.Verdict.{Verdict}
-use Rattle.layout.specs.Layout.{dataSize, rootAt}
+use Rattle.layout.specs.Layout.{dataSize, rootAt, entryTakes}
 use Rattle.layout.specs.Refusals.{numberOf}
 use Rattle.builder.specs.Steps.{Step, goes, stops, stopBy, andThen, withRooms}
 use Rattle.builder.specs.Nodes.{addPath}
@@ -25,7 +25,6 @@ use Rattle.lookup.proofs.Spelling.{one-name}
 use Rattle.lookup.proofs.ValueReads.{shows}
 use Rattle.history.specs.History.{upToZero}
 use Rattle.history.specs.Lack.{seek, entryOf, missing, entryNeeds, ownLacks, lacks, fullNumber}
-use Rattle.history.proofs.Rooms.{full-number}
 use Rattle.history.proofs.Leading.{names-spelled, finds-own, finds-new, finds-others}
 use Rattle.history.proofs.Stood.{atRoot, above}
 use Rattle.history.proofs.Hung.{Hung, hung-seek}
@@ -42,8 +41,8 @@ pub data AddDone (area : List ℕ) (used : ℕ) (tree : Tree) (name value : List
   -- the name is no name: nothing changed
   badName : (why : Refusal) → nameVerdict name ≡ Verdict.Refused why → step ≡ stopBy area why → AddDone area used tree name value step
   -- there is not room for all that is lacking
-  noRoom : (number : ℕ) (b rooms : List ℕ) (grown : ℕ) (now : Tree) → nameVerdict name ≡ Verdict.Accepted → dataSize area < used + lacks tree name value
-      → step ≡ stops number b rooms → (number ≡ numberOf Refusal.NoRoom) ⊎ (number ≡ numberOf Refusal.TooLarge) → Sound b grown now → Alike tree now
+  noRoom : (wanted : ℕ) (b rooms : List ℕ) (grown : ℕ) (now : Tree) → nameVerdict name ≡ Verdict.Accepted → dataSize area < wanted → wanted ≤ used + lacks tree name value
+      → step ≡ stops (fullNumber wanted) b rooms → Sound b grown now → Alike tree now
       → AddDone area used tree name value step
   -- it has an entry already
   stays : (at : ℕ) (b rooms : List ℕ) (grown : ℕ) (now : Tree) (serial : ℕ) (v : Value) → nameVerdict name ≡ Verdict.Accepted → used + lacks tree name value ≤ dataSize area
@@ -72,11 +71,10 @@ module _ (area : List ℕ) (used : ℕ) (tree : Tree) (sound : Sound area used t
 
     -- the walk did not come to its end
     halted : Halted area used tree [] rootAt (segments name) → dataSize area < used + missing (segments name) tree → AddDone area used tree name value (addSteps area name value)
-    unfolding steps
+    unfolding steps reached
     halted H full =
-        noRoom (H .number) (H .after) (H .rooms) (used + total (H .rooms)) (H .now) named (omega (arith, full))
-        (sym steps-are ∙ ap (λ (s : Step). andThen s (λ at after. addEntry after name value at)) (H .is))
-        (subst (λ (k : ℕ). (k ≡ numberOf Refusal.NoRoom) ⊎ (k ≡ numberOf Refusal.TooLarge)) (sym (H .why)) (full-number (used + total (H .rooms) + H .wanted)))
+        noRoom (used + total (H .rooms) + H .wanted) (H .after) (H .rooms) (used + total (H .rooms)) (H .now) named (H .full) (omega (arith, H .within))
+        (sym steps-are ∙ ap (λ (s : Step). andThen s (λ at after. addEntry after name value at)) (H .is) ∙ ap (λ (k : ℕ). stops k (H .after) (H .rooms)) (H .why))
         (H .sound) (hung-seek tree (H .now) (H .hung))
 
     -- it did: at a node with that name for its path
@@ -126,10 +124,10 @@ module _ (area : List ℕ) (used : ℕ) (tree : Tree) (sound : Sound area used t
           (λ other differs. finds-others (W .at) (there .name) (there .own) (there .left) (there .below) (there .right) (there .way) (W .now) (there .there) (W .sound .rule) new other
           (λ e. differs (e ∙ sym whole)) ∙ same (segments other) bare)
       by (noEntry own over is) =
-          noRoom _ (W .after) _ (used + total (W .rooms)) (W .now) named
-          (omega (arith, over, sized, lacks-bare tree name value (has ∙ own), needs-least name value, size)) (onEntry _ is) (full-number _) (W .sound) same
+          noRoom (used + total (W .rooms) + entryTakes (length name)) (W .after) _ (used + total (W .rooms)) (W .now) named (omega (arith, over, size))
+          (omega (arith, sized, lacks-bare tree name value (has ∙ own), needs-least name value)) (onEntry _ is) (W .sound) same
       by (noValue b own room over is S) =
-          noRoom _ b _ _ (W .now) named (omega (arith, over, sized, lacks-bare tree name value (has ∙ own), size)) (onEntry _ is) (full-number _) S same
+          noRoom (used + total (W .rooms) + entryNeeds name value) b _ _ (W .now) named (omega (arith, over, size)) (omega (arith, sized, lacks-bare tree name value (has ∙ own))) (onEntry _ is) S same
 
       went : AddDone area used tree name value (addSteps area name value)
       went = by (add-entry (W .after) (used + total (W .rooms)) (W .now) (there .way) (W .at) (there .name) (there .own) (there .left) (there .below) (there .right) (there .there) (W .sound) name value whole)

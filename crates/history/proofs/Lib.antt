@@ -22,5 +22,7 @@ pub mod Naming
 pub mod Showing
 pub mod AddSound
 pub mod Next
+pub mod Entries
 pub mod Run
+pub mod OneCall
 pub mod Promises

@@ -30,7 +30,8 @@ use Rattle.growth.specs.Plug.{plug}
 use Rattle.lookup.proofs.ValueReads.{shows}
 use Rattle.lookup.proofs.Promises.{find-refusals}
 use Rattle.history.specs.History.{Op, add, update, call, numberIn, bytesIn, upToZero, opName, hear, heeded, sizeIn, roomsIn, opRooms}
-use Rattle.history.specs.Lack.{seek, entryOf}
+use Rattle.history.specs.Lack.{seek, entryOf, fullNumber}
+use Rattle.history.proofs.Rooms.{full-number}
 use Rattle.history.proofs.Leading.{finds-own, finds-new, finds-others}
 use Rattle.history.proofs.Naming.{verdict-refused}
 use Rattle.history.proofs.AddSound.{Alike, AddDone, badName, noRoom, stays, adds, add-sound}
@@ -165,9 +166,9 @@ module _ (area : List ℕ) (used : ℕ) (tree : Tree) (sound : Sound area used t
   by-add : AddDone area used tree name value (addSteps area name value) → Next area used tree (add name value)
   by-add (badName why e is) =
       next-refused area used tree (add name value) (numberOf why) area (is-of _ is) used tree sound (marked _ is area used tree refl sound) (bad-name why e) (λ n. refl) (refusal-some why)
-  by-add (noRoom number b rooms grown now e over is why S same) =
-      let w = room-numbers number why in
-      next-refused area used tree (add name value) number b (is-of _ is) grown now S (marked _ is b grown now refl S) (w .1) (λ n. same (segments n) bare) (w .0)
+  by-add (noRoom wanted b rooms grown now e over within is S same) =
+      let w = room-numbers (fullNumber wanted) (full-number wanted) in
+      next-refused area used tree (add name value) (fullNumber wanted) b (is-of _ is) grown now S (marked _ is b grown now refl S) (w .1) (λ n. same (segments n) bare) (w .0)
   by-add (stays at b rooms grown now serial v e fits is has S same) =
       next-accepted area used tree (add name value) b (is-of _ is) grown now S (marked _ is b grown now refl S) (λ other d. same (segments other) bare)
       (λ before m. subst (λ (x : Entry). Matches x (hear (add name value) before)) (sym (same (segments name) bare)) (hears-kept (entryOf tree name) at serial v before has m))

@@ -2,30 +2,32 @@
 use Prim.Native.Nat.{ℕ, _+_, _-_, _*_, _/_, _≤_, _<_}
 use native.Mathlib.Omega.{arith}
 use mathlib.Core.Path.{_≡_, refl, sym, ap, subst, _∙_}
-use mathlib.Core.Logic.{_≢_, _⊎_}
 use mathlib.Core.Bool.{true}
 use mathlib.Core.List.{List, [], _∷_}
-use mathlib.Core.Option.{Option, none}
+use mathlib.Core.Option.{Option, none, some}
 use lib.ListN.{length}
 use Rattle.names.specs.Names.{segments}
-use Rattle.layout.specs.declared.refusal.Refusal.{Refusal}
-use Rattle.layout.specs.declared.refusal.Verdict.{Verdict}
-use Rattle.layout.specs.Layout.{areaMax, wordSize, serialField, firstFree, formatMin, dataSize, wordAt, headerWord, usedField}
-use Rattle.layout.specs.Refusals.{accepted, refused, refuse, numberOf, noRefusal, acceptLeaving}
+use Rattle.layout.specs.Layout.{areaMax, serialField, firstFree, formatMin, wordAt, headerWord, usedField}
+use Rattle.layout.specs.Refusals.{accepted, refused, acceptLeaving}
 use Rattle.property_area.specs.Find.{hit, findSteps}
 use Rattle.counters.specs.Distance.{positions, distance, serialAfter}
 use Rattle.counters.proofs.Promises.{distance-counts}
 use Rattle.builder.specs.Fresh.{fresh}
-use Rattle.builder.specs.Steps.{outcome}
-use Rattle.builder.specs.Add.{nameVerdict, addSteps}
 use Rattle.builder.proofs.Used.{total}
-use Rattle.sound.specs.Tree.{bare, Tree, leaf}
-use Rattle.sound.specs.Sound.{Sound}
+use Rattle.sound.specs.Tree.{Value, Entry, bare, entry, Tree, leaf, listed}
+use Rattle.sound.specs.Sound.{Has, Sound}
 use Rattle.sound.specs.Ways.{reached}
-use Rattle.lookup.specs.Look.{spot}
+use Rattle.sound.proofs.Promises.{one-tree, one-mark}
+use Rattle.lookup.specs.Look.{spot, look}
+use Rattle.lookup.proofs.Costs.{costs}
+use Rattle.lookup.proofs.Promises.{find-cost, costs-bound, own-found}
+use Rattle.audit.specs.Check.{Judged, blank, scratchMin, checkSteps}
+use Rattle.audit.proofs.Promises.{check-accepts}
 use Rattle.history.specs.History.{Op, call, numberIn, after, shown, told, asShown, Shows, updateSizes, given}
-use Rattle.history.specs.Lack.{seek, entryOf, lacks, fullNumber}
+use Rattle.history.specs.Lack.{seek, entryOf}
 use Rattle.history.proofs.FreshSound.{fresh-sound}
+use Rattle.history.proofs.Entries.{serial-read, entry-found, entry-listed, found-entry, listed-held}
+use Rattle.history.proofs.Showing.{shown-which}
 use Rattle.history.proofs.Next.{Undamaged, Matches, next}
 use Rattle.history.proofs.Run.{Ran, ran, matched-shows, shown-matches}
 
@@ -40,6 +42,10 @@ module _ (area : List ℕ) (used : ℕ) (tree : Tree) (sound : Sound area used t
       let r = ran ops area used tree sound in
       matched-shows (after area ops) (r .grown) (r .now) (r .sound) name (entryOf (r .now) name) _ refl (r .tells name _ (shown-matches area used tree sound name (entryOf tree name) refl))
 
+  -- a name that is refused is refused as its search in the tree is: missing (3), or malformed (2) where an empty segment comes first
+  pub run-which : (grown : ℕ) (now : Tree) → Sound (after area ops) grown now → (name : List ℕ) (number : ℕ) → look (segments name) bare now 0 ≡ refused number → shown (after area ops) name ≡ refused number
+  run-which grown now S name number e = shown-which (after area ops) grown now S name number e
+
   -- the used mark has moved by the rooms of all objects that were given room, those of refused adds included
   pub run-used : headerWord (after area ops) usedField ≡ used + total (given area ops)
   run-used = let r = ran ops area used tree sound in r .sound .front .mark ∙ r .mark
@@ -47,6 +53,69 @@ module _ (area : List ℕ) (used : ℕ) (tree : Tree) (sound : Sound area used t
   -- no call after it answers damage or a bad header
   pub run-whole : (op : Op) → Undamaged (numberIn (call (after area ops) op))
   run-whole op = let r = ran ops area used tree sound in next (after area ops) (r .grown) (r .now) (r .sound) op .whole
+
+  -- a lookup compares at most (used - 112) / 24 nodes: found, by the count it answers
+  pub run-cost : (name : List ℕ) (at count : ℕ) → findSteps (after area ops) name ≡ accepted (hit at count) → count ≤ (headerWord (after area ops) usedField - firstFree) / 24
+  run-cost name at count f =
+      let r = ran ops area used tree sound in
+      omega (arith, find-cost (after area ops) (r .grown) (r .now) (r .sound) name at count f, r .sound .front .mark)
+
+  -- and refused, by the count of its search in the tree
+  pub run-costs : (now : Tree) (grown : ℕ) → Sound (after area ops) grown now → (name : List ℕ) → costs (segments name) now ≤ (headerWord (after area ops) usedField - firstFree) / 24
+  run-costs now grown S name = omega (arith, costs-bound (after area ops) grown now S (segments name), S .front .mark)
+
+  -- check accepts it
+  pub run-checks : (scratch : List ℕ) → scratchMin (after area ops) ≤ length scratch → (judged : Judged (after area ops)) → checkSteps (after area ops) scratch judged ≡ acceptLeaving (blank scratch)
+  run-checks scratch room judged =
+      let r = ran ops area used tree sound in
+      check-accepts (after area ops) scratch (r .sound .front .header) room (r .now) (subst (λ (u : ℕ). Sound (after area ops) u (r .now)) (sym (r .sound .front .mark)) (r .sound)) judged
+
+  -- whatever tree makes it sound, what is told of a name matches its entry
+  told-matches : (grown : ℕ) (now : Tree) → Sound (after area ops) grown now → (name : List ℕ) → Matches (entryOf now name) (told area name ops (asShown (shown area name)))
+  told-matches grown now S name =
+      let r = ran ops area used tree sound in
+      let u : r .grown ≡ grown = one-mark (after area ops) (r .grown) grown (r .now) now (r .sound) S in
+      let t : r .now ≡ now = one-tree (after area ops) grown (r .now) now (subst (λ (k : ℕ). Sound (after area ops) k (r .now)) u (r .sound)) S in
+      subst (λ (x : Tree). Matches (entryOf x name) (told area name ops (asShown (shown area name)))) t (r .tells name _ (shown-matches area used tree sound name (entryOf tree name) refl))
+
+  -- listing lists exactly the names that were told a value: each of them,
+  pub run-lists : (grown : ℕ) (now : Tree) → Sound (after area ops) grown now → (name value : List ℕ) → told area name ops (asShown (shown area name)) ≡ some value
+      → (at : ℕ) × (count : ℕ) × (findSteps (after area ops) name ≡ accepted (hit at count)) × Has at (listed now)
+  run-lists grown now S name value e = by (entryOf now name) refl (subst (λ (t : Option (List ℕ)). Matches (entryOf now name) t) e (told-matches grown now S name))
+    where
+      by : (own : Entry) → entryOf now name ≡ own → Matches (entryOf now name) (some value)
+          → (at : ℕ) × (count : ℕ) × (findSteps (after area ops) name ≡ accepted (hit at count)) × Has at (listed now)
+      by bare h m = absurd (rw h at m)
+      by (entry at serial full v) h m =
+          let f = entry-found (after area ops) grown now S name at serial full v h in
+          (at, f .0, f .1, entry-listed (after area ops) grown now S name at serial full v h)
+
+  -- and no other
+  pub run-listed : (grown : ℕ) (now : Tree) → Sound (after area ops) grown now → (at : ℕ) → Has at (listed now)
+      → (name : List ℕ) × (value : List ℕ) × (told area name ops (asShown (shown area name)) ≡ some value)
+  run-listed grown now S at has =
+      let h = listed-held now at has in
+      let f = own-found (after area ops) grown now S (h .0) at (h .1) (h .2) (h .3) (h .4) in
+      let q = found-entry (after area ops) grown now S (h .2) at (f .0) (f .1) in
+      by (h .2) (entryOf now (h .2)) (q .0) (q .1) (q .2) (told area (h .2) ops (asShown (shown area (h .2)))) refl (told-matches grown now S (h .2))
+    where
+      by : (name : List ℕ) (own : Entry) (serial : ℕ) (v : Value) → own ≡ entry at serial name v → (t : Option (List ℕ)) → told area name ops (asShown (shown area name)) ≡ t → Matches own t
+          → (n : List ℕ) × (value : List ℕ) × (told area n ops (asShown (shown area n)) ≡ some value)
+      by name bare serial v h t e m = absurd (let z : _≡_ {A = ℕ} 0 1 = cc in omega arith)
+      by name (entry far s full w) serial v h none e m = absurd m
+      by name (entry far s full w) serial v h (some value) e m = (name, value, e)
+
+  -- k accepted updates of a name, k < 32,768, give update distance k between the serials read before and after
+  pub run-distance : (name : List ℕ) (at count : ℕ) → findSteps area name ≡ accepted (hit at count) → length (updateSizes area name ops) < positions
+      → distance (wordAt area at serialField) (wordAt (after area ops) at serialField) ≡ length (updateSizes area name ops)
+  run-distance name at count f few =
+      let r = ran ops area used tree sound in
+      let q = found-entry area used tree sound name at count f in
+      let l = r .lasts name .lasts at (q .0) name (q .1) (q .2) in
+      let a : wordAt area at serialField ≡ q .0 = serial-read area used tree sound name at (q .0) name (q .1) (q .2) in
+      let b : wordAt (after area ops) at serialField ≡ serialAfter (q .0) (updateSizes area name ops)
+      = serial-read (after area ops) (r .grown) (r .now) (r .sound) name at (serialAfter (q .0) (updateSizes area name ops)) name (l .0) (l .1) in
+      rw (a, b) (distance-counts (updateSizes area name ops) (q .0) few)
 
 -- an empty tree has no entries
 leaf-none : (name : List ℕ) → Matches (entryOf leaf name) none

@@ -1,7 +1,7 @@
 -- Room asked for, by the used mark: it is given, or it is refused and nothing changes.
 use Prim.Native.Nat.{ℕ, _+_, _≤_, _<_}
 use native.Mathlib.Omega.{arith}
-use mathlib.Core.Path.{_≡_, refl}
+use mathlib.Core.Path.{_≡_, refl, _∙_}
 use mathlib.Core.Logic.{_⊎_, inl, inr}
 use mathlib.Core.List.{List, [], _∷_}
 use lib.Dec.{ltb}
@@ -40,3 +40,9 @@ module _ (area : List ℕ) (room used : ℕ) (mark : headerWord area usedField �
 pub full-number : (grown : ℕ) → (fullNumber grown ≡ numberOf Refusal.NoRoom) ⊎ (fullNumber grown ≡ numberOf Refusal.TooLarge)
 unfolding fullNumber
 full-number grown = bool-cases (ltb wordMax grown) (λ t. rw t (inr refl)) (λ t. rw t (inl refl))
+
+-- 4, unless the sum passes 32 bits, and with it any that is no less
+pub which-number : (wanted number limit : ℕ) → wanted ≤ limit → number ≡ fullNumber wanted → (number ≡ numberOf Refusal.NoRoom) ⊎ ((number ≡ numberOf Refusal.TooLarge) × (wordMax < limit))
+unfolding fullNumber
+which-number wanted number limit within e =
+    bool-cases (ltb wordMax wanted) (λ t. inr (e ∙ rw t refl, omega (arith, ltb-true wordMax wanted t, within))) (λ t. inl (e ∙ rw t refl))

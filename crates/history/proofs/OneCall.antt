@@ -1,0 +1,65 @@
+-- One add or update over any sound area: when it is accepted, and with which number it is refused.
+use Prim.Native.Nat.{ℕ, _+_, _≤_, _<_}
+use native.Mathlib.Omega.{arith}
+use mathlib.Core.Path.{_≡_, sym, ap, _∙_}
+use mathlib.Core.Logic.{_⊎_}
+use mathlib.Core.List.{List}
+use lib.ListN.{length}
+use Rattle.names.specs.Names.{segments}
+use Rattle.layout.specs.declared.refusal.Refusal.{Refusal}
+use Rattle.layout.specs.declared.refusal.Verdict.{Verdict}
+use Rattle.layout.specs.Layout.{wordMax, slotSize, dataSize}
+use Rattle.layout.specs.Refusals.{accepted, refused, numberOf, noRefusal}
+use Rattle.property_area.specs.Find.{hit}
+use Rattle.builder.specs.Steps.{Step, outcome}
+use Rattle.builder.specs.Add.{nameVerdict, addSteps}
+use Rattle.updates.specs.Update.{updateSteps}
+use Rattle.sound.specs.Tree.{Value, short, long, bare, entry, Tree}
+use Rattle.sound.specs.Sound.{Sound}
+use Rattle.history.specs.History.{add, update, call, numberIn}
+use Rattle.history.specs.Lack.{seek, entryOf, lacks}
+use Rattle.history.proofs.Rooms.{which-number}
+use Rattle.history.proofs.Leading.{finds-own}
+use Rattle.history.proofs.AddSound.{AddDone, badName, noRoom, stays, adds, add-sound}
+use Rattle.history.proofs.UpdateSound.{Stands, UpdateDone, unfound, longEntry, tooLong, done, update-sound}
+use Rattle.history.proofs.Entries.{entry-found}
+
+module _ (area : List ℕ) (used : ℕ) (tree : Tree) (sound : Sound area used tree) (name value : List ℕ) where
+  -- an add whose name is neither 1 nor 2 is accepted exactly when used plus all missing padded sizes is at most data size
+  pub add-accepted : nameVerdict name ≡ Verdict.Accepted → used + lacks tree name value ≤ dataSize area → numberIn (call area (add name value)) ≡ noRefusal
+  add-accepted named fits = by (add-sound area used tree sound name value)
+    where
+      by : AddDone area used tree name value (addSteps area name value) → numberIn (outcome (addSteps area name value)) ≡ noRefusal
+      by (badName why e is) = absurd (let q : Verdict.Accepted ≡ Verdict.Refused why = sym named ∙ e in let z : _≡_ {A = ℕ} 0 1 = cc in omega arith)
+      by (noRoom wanted b rooms grown now e over within is S same) = absurd (omega (arith, over, within, fits))
+      by (stays at b rooms grown now serial v e room is has S same) = ap (λ (s : Step). numberIn (outcome s)) is
+      by (adds at b rooms grown now serial v e room is has S new shown others) = ap (λ (s : Step). numberIn (outcome s)) is
+
+  -- else it is 4, or 9 where the sum passes 32 bits
+  pub add-refused : nameVerdict name ≡ Verdict.Accepted → dataSize area < used + lacks tree name value
+      → (numberIn (call area (add name value)) ≡ numberOf Refusal.NoRoom) ⊎ ((numberIn (call area (add name value)) ≡ numberOf Refusal.TooLarge) × (wordMax < used + lacks tree name value))
+  add-refused named over = by (add-sound area used tree sound name value)
+    where
+      by : AddDone area used tree name value (addSteps area name value)
+          → (numberIn (outcome (addSteps area name value)) ≡ numberOf Refusal.NoRoom) ⊎ ((numberIn (outcome (addSteps area name value)) ≡ numberOf Refusal.TooLarge) × (wordMax < used + lacks tree name value))
+      by (badName why e is) = absurd (let q : Verdict.Accepted ≡ Verdict.Refused why = sym named ∙ e in let z : _≡_ {A = ℕ} 0 1 = cc in omega arith)
+      by (noRoom wanted b rooms grown now e full within is S same) = which-number wanted _ (used + lacks tree name value) within (ap (λ (s : Step). numberIn (outcome s)) is)
+      by (stays at b rooms grown now serial v e room is has S same) = absurd (omega (arith, over, room))
+      by (adds at b rooms grown now serial v e room is has S new shown others) = absurd (omega (arith, over, room))
+
+  -- an update of a short entry with a value under 92 bytes is accepted
+  pub update-accepted : (at serial : ℕ) (slot : List ℕ) → entryOf tree name ≡ entry at serial name (short slot) → length value < slotSize → numberIn (call area (update name value)) ≡ noRefusal
+  update-accepted at serial slot has few = by (update-sound area used tree sound name value)
+    where
+      stands : (far s : ℕ) (v : Value) → Stands tree far s name v → entryOf tree name ≡ entry far s name v
+      stands far s v here = ap (λ (n : List ℕ). seek (segments n) bare tree) (here .spelled)
+          ∙ finds-own (here .at) (here .segment) (entry far s name v) (here .left) (here .below) (here .right) (here .way) tree (here .is) (sound .rule)
+
+      by : UpdateDone area used tree name value (updateSteps area name value) → numberIn (updateSteps area name value) ≡ noRefusal
+      by (unfound number found is) =
+          let f = entry-found area used tree sound name at serial name (short slot) has in
+          absurd (let q : accepted (hit at (f .0)) ≡ refused number = sym (f .1) ∙ found in let z : _≡_ {A = ℕ} 0 1 = cc in omega arith)
+      by (longEntry far s place text here is) =
+          absurd (let q : entry at serial name (short slot) ≡ entry far s name (long place text) = sym has ∙ stands far s (long place text) here in let z : _≡_ {A = ℕ} 0 1 = cc in omega arith)
+      by (tooLong far s other here over is) = absurd (omega (arith, over, few))
+      by (done far s other b fresh here less is S e) = ap numberIn is
