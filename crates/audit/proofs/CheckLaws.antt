@@ -12,7 +12,7 @@ use Rattle.words.proofs.Laws.{bool-cases}
 use Rattle.words.specs.Words.{put}
 use Rattle.layout.specs.declared.refusal.Refusal.{Refusal}
 use Rattle.layout.specs.declared.refusal.Verdict.{Verdict}
-use Rattle.layout.specs.Layout.{wordSize, usedField, areaMax, dataSize, byteOf}
+use Rattle.layout.specs.Layout.{wordSize, usedField, areaMax, byteOf}
 use Rattle.layout.specs.Refusals.{Answer, accepted, refused, refuse, noRefusal, verdictNumber, Outcome, leaves}
 use Rattle.property_area.specs.Header.{headerOk}
 use Rattle.property_area.proofs.HeaderLaws.{header-min, header-max}

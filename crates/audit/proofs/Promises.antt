@@ -12,7 +12,7 @@ use Rattle.words.specs.Words.{put}
 use Rattle.layout.specs.declared.refusal.Refusal.{Refusal}
 use Rattle.layout.specs.declared.refusal.Verdict.{Verdict}
 use Rattle.layout.specs.Layout.{areaMax, wordSize, firstFree}
-use Rattle.layout.specs.Refusals.{Answer, accepted, refused, refuse, verdictNumber, leaves, acceptLeaving, refuseLeaving}
+use Rattle.layout.specs.Refusals.{accepted, refused, verdictNumber, leaves, acceptLeaving, refuseLeaving}
 use Rattle.layout.proofs.Promises.{one-outcome, one-refusal}
 use Rattle.property_area.specs.Header.{headerOk}
 use Rattle.property_area.proofs.HeaderLaws.{header-max}
@@ -20,7 +20,7 @@ use Rattle.sound.specs.Tree.{Entry, bare, entry, Tree, leaf, node, listedOwn, l
 use Rattle.sound.specs.Sound.{Sound}
 use Rattle.sound.specs.Ways.{nodes}
 use Rattle.sound.proofs.Counting.{nodes-few}
-use Rattle.audit.specs.Check.{usedOf, Judged, sound, unsound, blank, scratchMin, surveySteps, checkSteps, Listing, lists, listedAnswer, listSteps}
+use Rattle.audit.specs.Check.{usedOf, Judged, sound, unsound, blank, scratchMin, surveySteps, checkSteps, lists, listedAnswer, listSteps}
 use Rattle.audit.specs.declared.checking.Listed.{Listed}
 use Rattle.audit.proofs.CheckLaws.{judge}
 

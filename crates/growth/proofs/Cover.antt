@@ -6,7 +6,7 @@ use mathlib.Core.List.{List, [], _∷_}
 use lib.ListN.{length}
 use Rattle.layout.specs.Layout.{wordSize, nodeSize, byteOf, placeOf, nodeTakes}
 use Rattle.sound.specs.Tree.{Entry, Tree, leaf, node, inside, entryCover, cover}
-use Rattle.sound.specs.Ways.{Dir, toLeft, toBelow, toRight, toward, reached, nodes}
+use Rattle.sound.specs.Ways.{Dir, toLeft, toBelow, toRight, toward, reached}
 use Rattle.sound.proofs.Inside.{inside-part}
 use Rattle.growth.specs.Plug.{hang, plug, linkField, linkPlace}
 
@@ -25,18 +25,8 @@ hang-cover i toLeft (node at name own left below right) other = omega arith
 hang-cover i toBelow (node at name own left below right) other = omega arith
 hang-cover i toRight (node at name own left below right) other = omega arith
 
-hang-nodes : (dir : Dir) (tree other : Tree) → nodes (hang dir tree other) + nodes (toward dir tree) ≡ nodes tree + nodes other
-unfolding nodes hang toward
-hang-nodes dir leaf other = omega arith
-hang-nodes toLeft (node at name own left below right) other = omega arith
-hang-nodes toBelow (node at name own left below right) other = omega arith
-hang-nodes toRight (node at name own left below right) other = omega arith
-
 pub plug-cover : (tree : Tree) (way : List Dir) (other : Tree) (i : ℕ) → cover (plug tree way other) i + cover (reached tree way) i ≡ cover tree i + cover other i
 plug-cover tree way other i = plug-count (λ t. cover t i) (hang-cover i) way tree other
-
-pub plug-nodes : (tree : Tree) (way : List Dir) (other : Tree) → nodes (plug tree way other) + nodes (reached tree way) ≡ nodes tree + nodes other
-plug-nodes tree way other = plug-count nodes hang-nodes way tree other
 
 -- ---- a node: its own bytes, what hangs in a direction, and the rest
 unfoldable pub aside : Dir → Tree → ℕ → ℕ

@@ -5,15 +5,13 @@ use native.Mathlib.Decide.{decLt}
 use mathlib.Core.Path.{_≡_, refl, sym, _∙_}
 use mathlib.Core.List.{List, [], _∷_, _++_}
 use lib.ListN.{length}
-use lib.Dec.{ltb}
-use borrow.Author.Tests.{ne-eqb, lt-ltb, le-ltb, ltb-true, ltb-false}
+use borrow.Author.Tests.{ne-eqb, lt-ltb, le-ltb}
 use Rattle.words.specs.Stores.{run, wordStore, textStores}
-use Rattle.words.proofs.Laws.{bool-cases}
 use Rattle.words.proofs.StoreLaws.{run-length}
-use Rattle.layout.specs.Layout.{wordSize, wordMax, usedField, propField, entrySize, slotSize, lengthUnit, dataSize, byteOf, placeOf, headerWord, entryTakes, valueTakes}
+use Rattle.layout.specs.Layout.{wordSize, usedField, propField, entrySize, slotSize, lengthUnit, dataSize, byteOf, placeOf, headerWord, entryTakes, valueTakes}
 use Rattle.layout.proofs.Promises.{touch-yes}
 use Rattle.property_info.specs.Written.{shortStores, longSerial, longStores}
-use Rattle.builder.specs.Steps.{goes, stops, andThen}
+use Rattle.builder.specs.Steps.{goes, andThen}
 use Rattle.builder.specs.Allocate.{allocate}
 use Rattle.builder.specs.Nodes.{linkTo}
 use Rattle.builder.specs.Entries.{layEntry, longEntry, newEntry, addEntry}

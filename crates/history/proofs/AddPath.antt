@@ -4,14 +4,9 @@ use native.Mathlib.Nat.{add-zero}
 use native.Mathlib.Omega.{arith}
 use native.Mathlib.Decide.{decLt}
 use mathlib.Core.Path.{_≡_, refl, sym, ap, _∙_}
-use mathlib.Core.Logic.{_⊎_, inl, inr}
 use mathlib.Core.List.{List, [], _∷_, _++_, append-nil, append-assoc}
-use lib.Dec.{ltb}
 use lib.ListN.{length}
-use Rattle.words.proofs.Laws.{bool-cases}
-use Rattle.layout.specs.declared.refusal.Refusal.{Refusal}
-use Rattle.layout.specs.Refusals.{numberOf}
-use Rattle.layout.specs.Layout.{wordMax, dataSize, nodeTakes}
+use Rattle.layout.specs.Layout.{dataSize, nodeTakes}
 use Rattle.builder.specs.Steps.{goes, stops}
 use Rattle.builder.specs.Nodes.{addPath}
 use Rattle.builder.proofs.Used.{total}

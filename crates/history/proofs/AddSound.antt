@@ -2,15 +2,14 @@
 use Prim.Native.Nat.{ℕ, _+_, _-_, _≤_, _<_}
 use native.Mathlib.Omega.{arith}
 use native.Mathlib.Decide.{decLt}
-use mathlib.Core.Path.{_≡_, refl, sym, ap, subst, _∙_}
+use mathlib.Core.Path.{_≡_, refl, sym, ap, _∙_}
 use mathlib.Core.Logic.{_≢_}
-use mathlib.Core.List.{List, [], _∷_, _++_}
+use mathlib.Core.List.{List, [], _++_}
 use lib.ListN.{length}
 use Rattle.names.specs.Names.{segments}
 use Rattle.layout.specs.declared.refusal.Refusal.{Refusal}
 use Rattle.layout.specs.declared.refusal.Verdict.{Verdict}
 use Rattle.layout.specs.Layout.{dataSize, rootAt, entryTakes}
-use Rattle.layout.specs.Refusals.{numberOf}
 use Rattle.builder.specs.Steps.{Step, goes, stops, stopBy, andThen, withRooms}
 use Rattle.builder.specs.Nodes.{addPath}
 use Rattle.builder.specs.Entries.{addEntry}
@@ -27,7 +26,7 @@ use Rattle.history.specs.History.{upToZero}
 use Rattle.history.specs.Lack.{seek, entryOf, missing, entryNeeds, ownLacks, lacks, fullNumber}
 use Rattle.history.proofs.Leading.{names-spelled, finds-own, finds-new, finds-others}
 use Rattle.history.proofs.Stood.{atRoot, above}
-use Rattle.history.proofs.Hung.{Hung, hung-seek}
+use Rattle.history.proofs.Hung.{hung-seek}
 use Rattle.history.proofs.AddPath.{Went, Halted, path-goes, path-halts, NodeThere, stood-node}
 use Rattle.history.proofs.EntryAdded.{EntryAdded, kept, added, noEntry, noValue, needs-least, laid-shows}
 use Rattle.history.proofs.AddEntry.{add-entry}

@@ -2,13 +2,13 @@
 use Prim.Native.Nat.{ℕ, zero, suc, _+_, _-_, _<_}
 use native.Mathlib.Omega.{arith}
 use native.Mathlib.Decide.{decLt}
-use mathlib.Core.Path.{_≡_, refl, sym, ap, subst, _∙_}
+use mathlib.Core.Path.{_≡_, sym, ap, subst, _∙_}
 use mathlib.Core.Logic.{_⊎_, inl, inr}
 use mathlib.Core.List.{List, [], _∷_, _++_}
 use lib.ListN.{length, getD, length-append, List·getD-append}
 use lib.Seq.{getD-append-add}
 use Rattle.names.specs.Names.{segments}
-use Rattle.layout.specs.Layout.{rootAt, childrenField, serialField, wordAt}
+use Rattle.layout.specs.Layout.{serialField, wordAt}
 use Rattle.layout.specs.Refusals.{accepted}
 use Rattle.property_area.specs.Find.{hit, findSteps}
 use Rattle.sound.specs.Tree.{Value, Entry, bare, entry, Tree, leaf, node, listedOwn, listed}
@@ -19,7 +19,7 @@ use Rattle.growth.proofs.SoundPut.{topPlace}
 use Rattle.lookup.proofs.FindLook.{find-look}
 use Rattle.lookup.proofs.Spelling.{ownOf}
 use Rattle.lookup.proofs.Promises.{own-found, own-listed}
-use Rattle.history.specs.Lack.{seek, entryOf}
+use Rattle.history.specs.Lack.{entryOf}
 use Rattle.history.proofs.Seeking.{seek-found}
 use Rattle.history.proofs.Leading.{Leads, seek-leads, seek-name}
 use Rattle.lookup.proofs.Spelling.{one-name}

@@ -2,17 +2,12 @@
 use Prim.Native.Nat.{ℕ, _+_, _*_, _≤_, _<_}
 use native.Mathlib.Omega.{arith}
 use mathlib.Core.Path.{_≡_}
-use mathlib.Core.Bool.{cond}
 use mathlib.Core.List.{List, [], _∷_}
 use lib.ListN.{length}
-use lib.Dec.{ltb}
 use borrow.Author.Tests.{lt-ltb, le-ltb}
-use Rattle.layout.specs.declared.refusal.Refusal.{Refusal}
-use Rattle.layout.specs.Layout.{wordMax, slotSize, lengthUnit, dataSize, entryTakes, valueTakes}
-use Rattle.layout.specs.Refusals.{numberOf}
+use Rattle.layout.specs.Layout.{slotSize, lengthUnit, dataSize, entryTakes, valueTakes}
 use Rattle.property_info.specs.Written.{longSerial}
 use Rattle.builder.specs.Steps.{Step, goes, stops}
-use Rattle.builder.proofs.Used.{total}
 use Rattle.sound.specs.Tree.{Value, short, long, Entry, bare, entry, Tree, node}
 use Rattle.sound.specs.Sound.{Sound}
 use Rattle.sound.specs.Ways.{Dir}

@@ -39,9 +39,6 @@ placed-prefix (toLeft ∷ way) segment prefix (node at name own left below right
 placed-prefix (toBelow ∷ way) segment prefix (node at name own left below right) placed = absurd placed
 placed-prefix (toRight ∷ way) segment prefix (node at name own left below right) placed = placed-prefix way segment prefix right (placed .1)
 
-pub spot-prefix : (segment prefix : List ℕ) (tree : Tree) → prefixAt prefix tree (spot segment tree) ≡ prefix
-spot-prefix segment prefix tree = placed-prefix (spot segment tree) segment prefix tree (spot-placed segment tree)
-
 -- a node of that name, put there, is found there
 module _ (segment : List ℕ) (at : ℕ) (own : Entry) (left below right : Tree) where
   pub spot-plug : (tree : Tree) → spot segment (plug tree (spot segment tree) (node at segment own left below right)) ≡ spot segment tree

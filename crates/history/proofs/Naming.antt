@@ -1,13 +1,13 @@
 -- The name's verdict, told by its segments: it is accepted if and only if each may name a node. So a name that is refused is no entry's.
 use Prim.Native.Nat.{ℕ, zero, suc}
 use native.Mathlib.Omega.{arith}
-use mathlib.Core.Path.{_≡_, refl, subst}
+use mathlib.Core.Path.{_≡_}
 use mathlib.Core.Logic.{_≢_, _⊎_, inl, inr}
 use mathlib.Core.Bool.{true, false}
-use mathlib.Core.List.{List, [], _∷_, _++_}
+use mathlib.Core.List.{List, [], _∷_}
 use lib.Dec.{eqb}
 use lib.ListN.{length}
-use borrow.Author.Tests.{ltb-true, ltb-false, ne-eqb, eqb-true, eqb-false}
+use borrow.Author.Tests.{ltb-true, ltb-false, eqb-false}
 use Rattle.words.specs.Words.{firstIn, hasZero}
 use Rattle.words.proofs.Laws.{bool-cases}
 use Rattle.words.proofs.Promises.{first-none, first-there}
@@ -15,13 +15,7 @@ use Rattle.names.specs.Names.{dot, onFirst, segments}
 use Rattle.layout.specs.declared.refusal.Refusal.{Refusal}
 use Rattle.layout.specs.declared.refusal.Verdict.{Verdict}
 use Rattle.builder.specs.Add.{anyEmpty, nameVerdict}
-use Rattle.sound.specs.Tree.{Entry, bare, entry, Tree, leaf, node}
-use Rattle.sound.specs.Sound.{Without, NodeRule, TreeRule}
-use Rattle.sound.specs.Ways.{Dir, toLeft, toBelow, toRight}
-use Rattle.lookup.proofs.Spelling.{namesTo}
-use Rattle.history.specs.Lack.{seek}
-use Rattle.history.proofs.Leading.{seek-leads}
-use Rattle.history.proofs.NodeHung.{NameRule}
+use Rattle.sound.specs.Sound.{Without}
 use Rattle.history.proofs.AddPath.{AllNamed}
 
 -- ---- the two tests of a verdict
@@ -91,11 +85,6 @@ clean-more : (x : ℕ) (segs : List (List ℕ)) → x ≢ 0 → x ≢ dot → Cl
 clean-more x [] whole plain clean = (more-without 0 x [] whole (none-without 0), more-without dot x [] plain (none-without dot), tt)
 clean-more x (segment ∷ rest) whole plain clean = (more-without 0 x segment whole (clean .0), more-without dot x segment plain (clean .1), clean .2)
 
-clean-less : (x : ℕ) (segs : List (List ℕ)) → Clean (onFirst x segs) → (x ≢ 0) × Clean segs
-clean-less x [] clean = (clean .0 0 (omega arith), tt)
-clean-less x (segment ∷ rest) clean =
-    (clean .0 0 (omega arith), (less-without 0 x segment (clean .0), less-without dot x segment (clean .1), clean .2))
-
 whole-clean : (name : List ℕ) → Without 0 name → Clean (segments name)
 unfolding segments
 whole-clean [] whole = (none-without 0, none-without dot, tt)
@@ -105,16 +94,7 @@ whole-clean (x ∷ xs) whole =
     (λ t. rw t (none-without 0, none-without dot, clean))
     (λ t. rw t (clean-more x (segments xs) (whole 0 (omega arith)) (eqb-false x dot t) clean))
 
-clean-whole : (name : List ℕ) → Clean (segments name) → Without 0 name
-unfolding segments
-clean-whole [] clean = none-without 0
-clean-whole (x ∷ xs) clean =
-    bool-cases (eqb x dot)
-    (λ t. let rest : Without 0 [] × Without dot [] × Clean (segments xs) = rw t at clean in
-    more-without 0 x xs (λ z. omega (arith, eqb-true x dot t)) (clean-whole xs (rest .2)))
-    (λ t. let less = clean-less x (segments xs) (rw t at clean) in more-without 0 x xs (less .0) (clean-whole xs (less .1)))
-
--- ---- a name is accepted if and only if each of its segments may name a node
+-- ---- each segment of an accepted name may name a node
 clean-named : (segs : List (List ℕ)) → Clean segs → anyEmpty segs ≡ false → AllNamed segs
 unfolding anyEmpty
 clean-named [] clean full = tt
@@ -126,42 +106,7 @@ clean-named (segment ∷ rest) clean full =
       clean-named rest (clean .2) (rw t at full),
     ))
 
-named-clean : (segs : List (List ℕ)) → AllNamed segs → Clean segs
-named-clean [] named = tt
-named-clean (segment ∷ rest) named = (named .0 .whole, named .0 .plain, named-clean rest (named .1))
-
-named-full : (segs : List (List ℕ)) → AllNamed segs → anyEmpty segs ≡ false
-unfolding anyEmpty
-named-full [] named = refl
-named-full (segment ∷ rest) named = rw (ne-eqb (length segment) 0 (λ e. omega (arith, named .0 .some)), named-full rest (named .1))
-
 pub all-named : (name : List ℕ) → nameVerdict name ≡ Verdict.Accepted → AllNamed (segments name)
 all-named name e =
     let tests = accepted-tests name e in
     clean-named (segments name) (whole-clean name (zero-none name (tests .0))) (tests .1)
-
-pub named-accepted : (name : List ℕ) → AllNamed (segments name) → nameVerdict name ≡ Verdict.Accepted
-unfolding nameVerdict
-named-accepted name named = rw (none-zero name (clean-whole name (named-clean (segments name) named)), named-full (segments name) named)
-
--- ---- the nodes on a way are so named: a name that is not leads to no entry
-node-named : (at : ℕ) (name : List ℕ) → NodeRule at name → NameRule name
-node-named at name rule = record { some = rule .some; whole = rule .whole; plain = rule .plain }
-
-ways-named : (way : List Dir) (prefix : List ℕ) (tree : Tree) → TreeRule prefix tree → AllNamed (namesTo tree way)
-unfolding TreeRule namesTo
-ways-named way prefix leaf rule = tt
-ways-named [] prefix (node at name own left below right) rule = (node-named at name (rule .0), tt)
-ways-named (toLeft ∷ way) prefix (node at name own left below right) rule = ways-named way prefix left (rule .4)
-ways-named (toBelow ∷ way) prefix (node at name own left below right) rule =
-    (node-named at name (rule .0), ways-named way (prefix ++ name ++ dot ∷ []) below (rule .5))
-ways-named (toRight ∷ way) prefix (node at name own left below right) rule = ways-named way prefix right (rule .6)
-
-pub zero-unseen : (tree : Tree) → TreeRule [] tree → (name : List ℕ) → nameVerdict name ≢ Verdict.Accepted → seek (segments name) bare tree ≡ bare
-zero-unseen tree rule name refused = by (seek (segments name) bare tree) refl
-  where
-    by : (own : Entry) → seek (segments name) bare tree ≡ own → own ≡ bare
-    by bare e = refl
-    by (entry at serial full value) e =
-        let there = seek-leads at serial full value (segments name) tree e in
-        absurd (refused (named-accepted name (subst AllNamed (there .names) (ways-named (there .way) [] tree rule))))

@@ -1,11 +1,10 @@
 -- One call over a sound area: sound again, never damage, the used mark moved by the rooms given, and every name's entry as the call says.
 use Prim.Native.Nat.{ℕ, _+_}
-use native.Mathlib.Nat.{add-zero}
 use native.Mathlib.Omega.{arith}
 use mathlib.Core.Path.{_≡_, refl, sym, ap, subst, _∙_}
 use mathlib.Core.Logic.{_≢_, _⊎_, inl, inr}
-use mathlib.Core.Bool.{Bool, true, false, cond, _&&_, false≢true}
-use mathlib.Core.List.{List, [], _∷_, _++_}
+use mathlib.Core.Bool.{Bool, false, cond, _&&_, false≢true}
+use mathlib.Core.List.{List, [], _∷_}
 use mathlib.Core.Option.{Option, none, some}
 use lib.ListN.{length}
 use lib.Dec.{eqb}
@@ -18,7 +17,6 @@ use Rattle.layout.specs.declared.refusal.Verdict.{Verdict}
 use Rattle.layout.specs.Layout.{usedField, headerWord}
 use Rattle.layout.specs.Refusals.{numberOf, noRefusal, Outcome, leaves}
 use Rattle.property_info.specs.Serial.{updatedSerial}
-use Rattle.property_area.specs.Find.{findSteps}
 use Rattle.counters.specs.Distance.{serialAfter}
 use Rattle.builder.specs.Steps.{Step, goes, stops, outcome}
 use Rattle.builder.specs.Add.{nameVerdict, addSteps}
@@ -34,7 +32,7 @@ use Rattle.history.specs.Lack.{seek, entryOf, fullNumber}
 use Rattle.history.proofs.Rooms.{full-number}
 use Rattle.history.proofs.Leading.{finds-own, finds-new, finds-others}
 use Rattle.history.proofs.Naming.{verdict-refused}
-use Rattle.history.proofs.AddSound.{Alike, AddDone, badName, noRoom, stays, adds, add-sound}
+use Rattle.history.proofs.AddSound.{AddDone, badName, noRoom, stays, adds, add-sound}
 use Rattle.history.proofs.UpdateSound.{Stands, UpdateDone, unfound, longEntry, tooLong, done, update-sound}
 
 -- what is told of a name, and the entry it has

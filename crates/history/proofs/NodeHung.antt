@@ -3,17 +3,12 @@ use Prim.Native.Nat.{ℕ, _+_, _-_, _%_, _≤_, _<_}
 use native.Mathlib.Omega.{arith}
 use native.Mathlib.Decide.{decLt}
 use mathlib.Core.Path.{_≡_, _∙_}
-use mathlib.Core.Bool.{true, cond}
+use mathlib.Core.Bool.{true}
 use mathlib.Core.List.{List, [], _∷_, _++_}
 use lib.ListN.{length, getD}
-use lib.Dec.{ltb}
-use borrow.Author.Tests.{ltb-true, ltb-false}
 use Rattle.words.specs.Stores.{run, wordStore}
-use Rattle.words.proofs.Laws.{bool-cases}
 use Rattle.words.proofs.StoreLaws.{run-length}
 use Rattle.names.specs.Names.{dot}
-use Rattle.layout.specs.declared.refusal.Refusal.{Refusal}
-use Rattle.layout.specs.Refusals.{numberOf}
 use Rattle.layout.specs.Layout.{wordSize, wordMax, usedField, magicField, nodeSize, childrenField, rootAt, firstFree, dataSize, byteOf, nodeTakes, nodeOk}
 use Rattle.layout.proofs.Promises.{touch-yes}
 use Rattle.property_area.proofs.HeaderLaws.{header-max}

@@ -1,18 +1,20 @@
 -- Demand 3. From any sound area on, and so from a fresh one: after any run of adds and updates by name, refused ones included.
-use Prim.Native.Nat.{ℕ, _+_, _-_, _*_, _/_, _≤_, _<_}
+use Prim.Native.Nat.{ℕ, _+_, _-_, _/_, _≤_, _<_}
 use native.Mathlib.Omega.{arith}
-use mathlib.Core.Path.{_≡_, refl, sym, ap, subst, _∙_}
-use mathlib.Core.Bool.{true}
+use mathlib.Core.Path.{_≡_, refl, sym, subst, _∙_}
 use mathlib.Core.List.{List, [], _∷_}
 use mathlib.Core.Option.{Option, none, some}
 use lib.ListN.{length}
 use Rattle.names.specs.Names.{segments}
+use Rattle.layout.specs.declared.refusal.Refusal.{Refusal}
+use Rattle.layout.specs.declared.refusal.Verdict.{Verdict}
 use Rattle.layout.specs.Layout.{areaMax, serialField, firstFree, formatMin, wordAt, headerWord, usedField}
-use Rattle.layout.specs.Refusals.{accepted, refused, acceptLeaving}
+use Rattle.layout.specs.Refusals.{accepted, refused, refuse, acceptLeaving}
 use Rattle.property_area.specs.Find.{hit, findSteps}
 use Rattle.counters.specs.Distance.{positions, distance, serialAfter}
 use Rattle.counters.proofs.Promises.{distance-counts}
 use Rattle.builder.specs.Fresh.{fresh}
+use Rattle.builder.specs.Add.{nameVerdict}
 use Rattle.builder.proofs.Used.{total}
 use Rattle.sound.specs.Tree.{Value, Entry, bare, entry, Tree, leaf, listed}
 use Rattle.sound.specs.Sound.{Has, Sound}
@@ -27,9 +29,11 @@ use Rattle.history.specs.History.{Op, call, numberIn, after, shown, told
 use Rattle.history.specs.Lack.{seek, entryOf}
 use Rattle.history.proofs.FreshSound.{fresh-sound}
 use Rattle.history.proofs.Entries.{serial-read, entry-found, entry-listed, found-entry, listed-held}
+use Rattle.history.proofs.Seeking.{look-none}
+use Rattle.history.proofs.Naming.{none-empty}
 use Rattle.history.proofs.Showing.{shown-which}
 use Rattle.history.proofs.Next.{Undamaged, Matches, next}
-use Rattle.history.proofs.Run.{Ran, ran, matched-shows, shown-matches}
+use Rattle.history.proofs.Run.{ran, matched-shows, shown-matches}
 
 module _ (area : List ℕ) (used : ℕ) (tree : Tree) (sound : Sound area used tree) (ops : List Op) where
   -- sound again, with some tree: so objects never overlap, and each node is reached by one path (sound's promises)
@@ -45,6 +49,18 @@ module _ (area : List ℕ) (used : ℕ) (tree : Tree) (sound : Sound area used t
   -- a name that is refused is refused as its search in the tree is: missing (3), or malformed (2) where an empty segment comes first
   pub run-which : (grown : ℕ) (now : Tree) → Sound (after area ops) grown now → (name : List ℕ) (number : ℕ) → look (segments name) bare now 0 ≡ refused number → shown (after area ops) name ≡ refused number
   run-which grown now S name number e = shown-which (after area ops) grown now S name number e
+
+  -- a well-formed name that was told no value is missing (3)
+  pub run-missing : (name : List ℕ) → nameVerdict name ≡ Verdict.Accepted → told area name ops (asShown (shown area name)) ≡ none → shown (after area ops) name ≡ refuse Refusal.Missing
+  run-missing name named e =
+      let r = ran ops area used tree sound in
+      by (entryOf (r .now) name) refl (subst (λ (t : Option (List ℕ)). Matches (entryOf (r .now) name) t) e (r .tells name _ (shown-matches area used tree sound name (entryOf tree name) refl)))
+    where
+      by : (own : Entry) → entryOf (ran ops area used tree sound .now) name ≡ own → Matches (entryOf (ran ops area used tree sound .now) name) none → shown (after area ops) name ≡ refuse Refusal.Missing
+      by bare h m =
+          let r = ran ops area used tree sound in
+          shown-which (after area ops) (r .grown) (r .now) (r .sound) name _ (look-none (segments name) bare (r .now) 0 (none-empty name named) h)
+      by (entry at serial full v) h m = absurd (rw h at m)
 
   -- the used mark has moved by the rooms of all objects that were given room, those of refused adds included
   pub run-used : headerWord (after area ops) usedField ≡ used + total (given area ops)

@@ -1,23 +1,21 @@
 -- A run of calls over a sound area, by one call after the other.
-use Prim.Native.Nat.{ℕ, _+_, _<_}
+use Prim.Native.Nat.{ℕ, _+_}
 use native.Mathlib.Omega.{arith}
-use native.Mathlib.Nat.{add-zero}
-use mathlib.Core.Path.{_≡_, refl, sym, ap, subst, _∙_}
+use mathlib.Core.Path.{_≡_, refl, sym, ap, _∙_}
 use mathlib.Core.Logic.{_⊎_, inl, inr}
 use mathlib.Core.Bool.{cond}
 use mathlib.Core.List.{List, [], _∷_, _++_}
 use mathlib.Core.Option.{Option, none, some}
 use Rattle.layout.specs.declared.refusal.Refusal.{Refusal}
-use Rattle.layout.specs.Refusals.{Answer, accepted, refused, refuse}
+use Rattle.layout.specs.Refusals.{accepted, refuse}
 use Rattle.counters.specs.Distance.{serialAfter}
 use Rattle.builder.proofs.Used.{total}
-use Rattle.sound.specs.Tree.{Value, Entry, bare, entry, Tree}
+use Rattle.sound.specs.Tree.{Entry, bare, entry, Tree}
 use Rattle.sound.specs.Sound.{Sound}
-use Rattle.lookup.proofs.ValueReads.{shows}
 use Rattle.history.specs.History.{Op, call, bytesIn, after, shown, hear, heeded, told, asShown, Shows, sizeIn, updateSizes, opRooms, given}
 use Rattle.history.specs.Lack.{entryOf}
 use Rattle.history.proofs.Showing.{shown-some, shown-none}
-use Rattle.history.proofs.Next.{Matches, Lasts, Next, next}
+use Rattle.history.proofs.Next.{Matches, Lasts, next}
 
 total-append : (a b : List ℕ) → total (a ++ b) ≡ total a + total b
 total-append [] b = omega arith

@@ -2,8 +2,7 @@
 use Prim.Native.Nat.{ℕ, _+_}
 use native.Mathlib.Nat.{add-zero, add-assoc}
 use native.Mathlib.Omega.{arith}
-use mathlib.Core.Path.{_≡_, refl, sym, ap, _∙_}
-use mathlib.Core.Logic.{_⊎_}
+use mathlib.Core.Path.{_≡_, refl, ap, _∙_}
 use mathlib.Core.Bool.{true, false}
 use mathlib.Core.List.{List, [], _∷_, _++_}
 use lib.Dec.{eqb}
@@ -15,14 +14,14 @@ use Rattle.names.specs.declared.Order.{Order}
 use Rattle.names.specs.declared.Order.the-variants.{Less, Equal, Greater}
 use Rattle.names.proofs.Promises.{order-equal}
 use Rattle.layout.specs.declared.refusal.Refusal.{Refusal}
-use Rattle.layout.specs.Refusals.{Answer, accepted, refused, refuse, numberOf}
-use Rattle.property_area.specs.Find.{Hit, hit}
+use Rattle.layout.specs.Refusals.{accepted, refuse}
+use Rattle.property_area.specs.Find.{hit}
 use Rattle.builder.specs.Add.{anyEmpty}
 use Rattle.sound.specs.Tree.{Value, Entry, bare, entry, Tree, leaf, node}
 use Rattle.sound.specs.Sound.{TreeRule}
 use Rattle.sound.specs.Ways.{toLeft, toRight, toward, reached}
 use Rattle.lookup.specs.Look.{turn, spot, compares, ownAnswer, byNode, look}
-use Rattle.lookup.proofs.Costs.{costs, Counts, look-counts}
+use Rattle.lookup.proofs.Costs.{costs}
 use Rattle.history.specs.Lack.{seek}
 
 -- one node of the search
@@ -62,11 +61,6 @@ pub look-none : (segs : List (List ℕ)) (own : Entry) (below : Tree) (compared 
     → look segs own below compared ≡ refuse Refusal.Missing
 unfolding ownAnswer
 look-none segs own below compared full is = look-seek segs own below compared full ∙ rw is
-
-pub look-some : (segs : List (List ℕ)) (own : Entry) (below : Tree) (compared at serial : ℕ) (name : List ℕ) (value : Value) → anyEmpty segs ≡ false
-    → seek segs own below ≡ entry at serial name value → look segs own below compared ≡ accepted (hit at (compared + costs segs below))
-unfolding ownAnswer
-look-some segs own below compared at serial name value full is = look-seek segs own below compared full ∙ rw is
 
 -- ---- what is found is the entry there
 abbrev pub IsAt : ℕ → Entry → Type 0
@@ -111,16 +105,3 @@ seek-empty (node at name next left under right) prefix (segment ∷ rest) own ru
         bool-cases (eqb (length segment) 0)
         (λ t. absurd (omega (arith, eqb-true (length segment) 0 t, ap length (order-equal segment name is), rule .0 .some)))
         (λ t. on (rw t at some))
-
-pub look-empty : (segs : List (List ℕ)) (prefix : List ℕ) (own : Entry) (below : Tree) (compared : ℕ) → TreeRule prefix below → anyEmpty segs ≡ true
-    → (number : ℕ) × (look segs own below compared ≡ refused number) × ((number ≡ numberOf Refusal.Missing) ⊎ (number ≡ numberOf Refusal.EmptySegment))
-look-empty segs prefix own below compared rule some =
-    by (look segs own below compared) refl (look-counts segs own below compared (compared + costs segs below) refl)
-  where
-    by : (answer : Answer Hit) → look segs own below compared ≡ answer → Counts (compared + costs segs below) answer
-        → (number : ℕ) × (answer ≡ refused number) × ((number ≡ numberOf Refusal.Missing) ⊎ (number ≡ numberOf Refusal.EmptySegment))
-    by (refused number) e counts = (number, refl, counts)
-    by (accepted (hit at count)) e counts =
-        let found = seek-found segs own below compared at count e in
-        let none : bare ≡ entry at (found .0) (found .1) (found .2) = sym (seek-empty below prefix segs own rule some) ∙ found .3 in
-        absurd (let q : _≡_ {A = ℕ} 0 1 = cc in omega arith)

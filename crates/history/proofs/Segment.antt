@@ -25,7 +25,7 @@ use Rattle.growth.proofs.Joining.{reached-append, link-append, Along, along-rea
 use Rattle.growth.proofs.SoundPut.{topPlace}
 use Rattle.lookup.specs.Look.{turn, spot, compares}
 use Rattle.lookup.proofs.NodeReads.{Standing, node-lies}
-use Rattle.lookup.proofs.Searching.{linkPlace as linkOffset, endsAt, searchEnd, search-siblings, segment-siblings}
+use Rattle.lookup.proofs.Searching.{linkOffset, endsAt, searchEnd, search-siblings, segment-siblings}
 use Rattle.lookup.proofs.LookWays.{spot-named}
 use Rattle.history.specs.Lack.{fullNumber}
 use Rattle.history.proofs.Hanging.{spot-along}

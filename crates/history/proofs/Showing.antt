@@ -9,7 +9,7 @@ use Rattle.names.specs.Names.{segments}
 use Rattle.layout.specs.declared.refusal.Refusal.{Refusal}
 use Rattle.layout.specs.Refusals.{Answer, accepted, refused, refuse}
 use Rattle.property_area.specs.Find.{Hit, hit}
-use Rattle.sound.specs.Tree.{Value, Entry, bare, entry, Tree}
+use Rattle.sound.specs.Tree.{Value, bare, entry, Tree}
 use Rattle.sound.specs.Sound.{Sound}
 use Rattle.sound.specs.Ways.{reached}
 use Rattle.lookup.specs.Look.{look}

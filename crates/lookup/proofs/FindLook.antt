@@ -21,7 +21,7 @@ use Rattle.sound.specs.Sound.{TreeRule, Sound}
 use Rattle.sound.specs.Ways.{Dir, toLeft, toBelow, toRight, toward, reached, nodes}
 use Rattle.lookup.specs.Look.{spot, compares, ownAnswer, byNode, look}
 use Rattle.lookup.proofs.NodeReads.{Standing, stands-whole, stands-left, stands-below, stands-right, node-touched, prop-word, children-word, own-room, OwnTouched, own-touched}
-use Rattle.lookup.proofs.Searching.{endsAt, searchEnd, linkPlace, segment-siblings, compares-few}
+use Rattle.lookup.proofs.Searching.{endsAt, searchEnd, linkOffset, segment-siblings, compares-few}
 
 -- what a way reaches stands there too, below some prefix
 pub stands-reached : (way : List Dir) (area : List ℕ) (used : ℕ) (prefix : List ℕ) (tree : Tree) → Standing area used prefix tree
@@ -86,7 +86,7 @@ find-from (segment ∷ rest) area used prefix parent own below compared p small 
     by : (end : Tree) → (q : List ℕ) × Standing area used q end → compares segment below + nodes (toward toBelow end) ≤ nodes below
         → ((prefix : List ℕ) (parent : ℕ) (own : Entry) (below : Tree) (compared : ℕ)
         → Parent area used prefix parent own below → compared + nodes below < countLimit → findFrom area rest parent compared ≡ look rest own below compared)
-        → bySearch (endsAt end (linkPlace (parent + childrenField) below (spot segment below)) (0 + compares segment below))
+        → bySearch (endsAt end (linkOffset (parent + childrenField) below (spot segment below)) (0 + compares segment below))
         (λ named more. findFrom area rest named ((compared + more) % countLimit))
         ≡ byNode end (refuse Refusal.Missing) (λ next under. look rest next under (compared + compares segment below))
     by leaf stands few on = refl

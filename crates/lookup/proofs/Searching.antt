@@ -27,10 +27,10 @@ fieldOf toBelow = childrenField
 fieldOf toRight = rightField
 
 -- the offset of the link word to what a way reaches, from that of the link to the tree itself
-unfoldable pub linkPlace : ℕ → Tree → List Dir → ℕ
-linkPlace place tree [] = place
-linkPlace place leaf (dir ∷ way) = place
-linkPlace place (node at name own left below right) (dir ∷ way) = linkPlace (at + fieldOf dir) (toward dir (node at name own left below right)) way
+unfoldable pub linkOffset : ℕ → Tree → List Dir → ℕ
+linkOffset place tree [] = place
+linkOffset place leaf (dir ∷ way) = place
+linkOffset place (node at name own left below right) (dir ∷ way) = linkOffset (at + fieldOf dir) (toward dir (node at name own left below right)) way
 
 -- a search that ends there: at a node, or at a zero link
 unfoldable pub endsAt : Tree → ℕ → ℕ → Searched
@@ -39,7 +39,7 @@ endsAt (node at name own left below right) place compared = Searched.Named at co
 
 -- where the search of a segment among siblings ends
 unfoldable pub searchEnd : List ℕ → Tree → ℕ → ℕ → Searched
-searchEnd segment tree place compared = endsAt (reached tree (spot segment tree)) (linkPlace place tree (spot segment tree)) (compared + compares segment tree)
+searchEnd segment tree place compared = endsAt (reached tree (spot segment tree)) (linkOffset place tree (spot segment tree)) (compared + compares segment tree)
 
 -- the search from a link on, with so many comparisons left: a zero link stops it at the link's place
 abbrev pub fromLink : List ℕ → List ℕ → ℕ → ℕ → ℕ → ℕ → ℕ → Searched
@@ -48,7 +48,7 @@ fromLink area segment more before first place compared = byVisit (follow first p
 module _ (area : List ℕ) (used : ℕ) (prefix segment : List ℕ) where
   pub search-siblings : (tree : Tree) (more before place compared : ℕ) → Standing area used prefix tree → nodes tree ≤ more
       → fromLink area segment more before (link tree) place compared ≡ searchEnd segment tree place compared
-  unfolding link nodes reached spot compares linkPlace endsAt searchEnd searchFrom toward
+  unfolding link nodes reached spot compares linkOffset endsAt searchEnd searchFrom toward
   search-siblings leaf more before place compared stands enough = rw add-zero
   search-siblings (node at name own left below right) zero before place compared stands enough = absurd (omega arith)
   search-siblings (node at name own left below right) (suc more) before place compared stands enough =
@@ -63,13 +63,13 @@ module _ (area : List ℕ) (used : ℕ) (prefix segment : List ℕ) where
           → byVisit (turn order Visited.Same (follow (link left) (at + leftField)) (follow (link right) (at + rightField))) at (compared + 1)
           (λ next. searchFrom area segment more next (compared + 1))
           ≡ endsAt (reached (node at name own left below right) (turn order [] (toLeft ∷ spot segment left) (toRight ∷ spot segment right)))
-          (linkPlace place (node at name own left below right) (turn order [] (toLeft ∷ spot segment left) (toRight ∷ spot segment right)))
+          (linkOffset place (node at name own left below right) (turn order [] (toLeft ∷ spot segment left) (toRight ∷ spot segment right)))
           (compared + (1 + turn order 0 (compares segment left) (compares segment right)))
       by Order.Equal l r = refl
       by Order.Less l r =
-          l ∙ ap (endsAt (reached left (spot segment left)) (linkPlace (at + leftField) left (spot segment left))) (add-assoc compared 1 (compares segment left))
+          l ∙ ap (endsAt (reached left (spot segment left)) (linkOffset (at + leftField) left (spot segment left))) (add-assoc compared 1 (compares segment left))
       by Order.Greater l r =
-          r ∙ ap (endsAt (reached right (spot segment right)) (linkPlace (at + rightField) right (spot segment right))) (add-assoc compared 1 (compares segment right))
+          r ∙ ap (endsAt (reached right (spot segment right)) (linkOffset (at + rightField) right (spot segment right))) (add-assoc compared 1 (compares segment right))
 
   child-link : (parent first : ℕ) → childSteps area segment parent first ≡ fromLink area segment (nodesMax area) parent first (parent + childrenField) 0
   child-link parent first = bool-cases (eqb first 0) (λ t. rw t) (λ t. rw t)

@@ -1,27 +1,27 @@
 -- The walk decides soundness: over marks that are all zero it ends at the root exactly if there is a tree, and lists that tree's entries.
-use Prim.Native.Nat.{ℕ, zero, suc, _+_, _-_, _*_, _/_, _%_, _≤_, _<_}
+use Prim.Native.Nat.{ℕ, zero, suc, _-_, _*_, _/_, _≤_}
 use native.Mathlib.Omega.{arith}
 use mathlib.Core.Path.{_≡_, refl, sym, ap, _∙_}
-use mathlib.Core.Logic.{_⊎_, inl, inr}
-use mathlib.Core.Bool.{Bool, true, false, false≢true}
-use mathlib.Core.List.{List, [], _∷_, _++_}
+use mathlib.Core.Logic.{inl, inr}
+use mathlib.Core.Bool.{true, false≢true}
+use mathlib.Core.List.{List, []}
 use lib.ListN.{length, getD}
-use Rattle.layout.specs.Layout.{areaMax, wordSize, firstFree, dataSize, byteOf}
+use Rattle.layout.specs.Layout.{wordSize, firstFree, byteOf}
 use Rattle.property_area.proofs.HeaderLaws.{header-max}
-use Rattle.sound.specs.Tree.{Tree, listed, inside}
+use Rattle.sound.specs.Tree.{Tree, listed}
 use Rattle.sound.specs.Sound.{Front, Room, Sound}
 use Rattle.sound.specs.Ways.{toBelow, toRight, nodes}
 use Rattle.sound.proofs.Inside.{inside-cases, inside-most}
 use Rattle.sound.proofs.Counting.{nodes-few}
-use Rattle.walk.specs.Machine.{Phase, on, State, bad, here, next, run}
+use Rattle.walk.specs.Machine.{Phase, on, State, bad, here}
 use Rattle.walk.specs.Model.{linkAt, placeAt, enterAt, ownWork, parentAt, cameAt, runAt, walkAt, stepsMax, ended, entriesOf}
 use Rattle.walk.proofs.Growing.{Grew, grew-refl, grew-trans, numberMax, Came, keeps-grew, top}
-use Rattle.walk.proofs.MarkLaws.{counted, counted-most, counted-blank}
+use Rattle.walk.proofs.MarkLaws.{counted-most, counted-blank}
 use Rattle.walk.proofs.NodeLaws.{NodeFits}
-use Rattle.walk.proofs.Entering.{Entered, entered-inv, came-parent, came-dir, own-grew}
-use Rattle.walk.proofs.Made.{Made, made, under-below}
-use Rattle.walk.proofs.Passing.{Goes, goes}
-use Rattle.walk.proofs.MachineLaws.{Shape, steps, Laws, Ends, Passed, forward, backward}
+use Rattle.walk.proofs.Entering.{entered-inv, came-parent, came-dir, own-grew}
+use Rattle.walk.proofs.Made.{made, under-below}
+use Rattle.walk.proofs.Passing.{goes}
+use Rattle.walk.proofs.MachineLaws.{steps, Laws, Ends, forward, backward}
 
 abbrev pub Blank : List ℕ → Type 0
 Blank marks = (i : ℕ) → getD marks i 0 ≡ 0

@@ -1,12 +1,12 @@
 -- Marks only grow: a mark that is not zero never changes. So numbers that are kept in marks stay, and with them the dotted prefix that owners spell.
-use Prim.Native.Nat.{ℕ, zero, suc, _+_, _*_, _≤_}
+use Prim.Native.Nat.{ℕ, suc, _+_, _*_, _≤_}
 use native.Mathlib.Omega.{arith}
-use mathlib.Core.Path.{_≡_, refl, sym, subst, _∙_}
+use mathlib.Core.Path.{_≡_, refl, sym, _∙_}
 use mathlib.Core.Logic.{_≢_}
 use mathlib.Core.List.{List, [], _∷_, _++_}
 use lib.ListN.{length, getD}
 use Rattle.names.specs.Names.{dot}
-use Rattle.sound.specs.Ways.{Dir, toLeft, toBelow, toRight}
+use Rattle.sound.specs.Ways.{Dir}
 use Rattle.walk.specs.Marks.{read}
 use Rattle.walk.specs.Model.{nameAt, dirNumber}
 

@@ -1,5 +1,5 @@
 -- A walk that was made has passed a tree that stands in the area, is as it ought to be, and took just the words that it took.
-use Prim.Native.Nat.{ℕ, zero, suc, _+_, _-_, _*_, _/_, _%_, _≤_, _<_}
+use Prim.Native.Nat.{ℕ, zero, suc, _+_, _-_, _*_, _%_, _≤_, _<_}
 use native.Mathlib.Omega.{arith}
 use mathlib.Core.Path.{_≡_, refl, sym, ap, subst, _∙_}
 use mathlib.Core.Logic.{_≢_, _⊎_, inl, inr}
@@ -8,14 +8,13 @@ use lib.ListN.{length, getD}
 use Rattle.names.specs.Names.{dot, segmentOrder}
 use Rattle.names.specs.declared.Order.the-variants.{Less, Greater}
 use Rattle.names.proofs.OrderLaws.{order-trans, order-less-flip}
-use Rattle.layout.specs.Layout.{wordSize, nodeSize, namelenField, propField, leftField, rightField, childrenField, firstFree, byteOf, placeOf, wordAt, nodeTakes}
+use Rattle.layout.specs.Layout.{wordSize, namelenField, propField, leftField, rightField, childrenField, firstFree, byteOf, wordAt, nodeTakes}
 use Rattle.sound.specs.Tree.{Entry, Tree, leaf, node, link, entryLink, listed, inside, cover}
 use Rattle.sound.specs.Sound.{nodeWords, NodeAt, TreeAt, NodeRule, Side, TreeRule}
 use Rattle.sound.specs.Ways.{Dir, toLeft, toBelow, toRight}
 use Rattle.sound.proofs.Inside.{inside-part}
 use Rattle.sound.proofs.Holding.{text-holds}
-use Rattle.walk.specs.Machine.{taken, done}
-use Rattle.walk.specs.Model.{fieldAt, linkAt, placeAt, nameFrom, nameAt, enterAt, ownWork, parentAt, cameAt, ownerFor, ownerAt}
+use Rattle.walk.specs.Model.{fieldAt, linkAt, placeAt, nameFrom, nameAt, enterAt, ownWork, parentAt, cameAt, ownerAt}
 use Rattle.walk.proofs.Growing.{Grew, grew-refl, grew-trans, numberMax, Owned, owned-grew, Prefix, more, prefix-grew}
 use Rattle.walk.proofs.MarkLaws.{counted}
 use Rattle.walk.proofs.NodeLaws.{NodeFits}

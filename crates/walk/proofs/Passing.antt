@@ -9,7 +9,7 @@ use lib.ListN.{length, getD}
 use Rattle.names.specs.Names.{dot, segmentOrder}
 use Rattle.names.specs.declared.Order.the-variants.{Less, Greater}
 use Rattle.names.proofs.OrderLaws.{order-greater-flip}
-use Rattle.layout.specs.Layout.{wordSize, nodeSize, namelenField, propField, leftField, rightField, childrenField, firstFree, byteOf, placeOf, wordAt, nodeTakes}
+use Rattle.layout.specs.Layout.{wordSize, nodeSize, namelenField, firstFree, byteOf, placeOf, wordAt, nodeTakes}
 use Rattle.sound.specs.Tree.{Entry, Tree, leaf, node, link, entryLink, listed, listedOwn, inside, entryCover, cover}
 use Rattle.sound.specs.Sound.{nodeWords, NodeAt, EntryAt, TreeAt, Without, NodeRule, EntryRule, Side, TreeRule}
 use Rattle.sound.specs.Ways.{Dir, toLeft, toBelow, toRight, nodes}
@@ -17,12 +17,12 @@ use Rattle.sound.proofs.Inside.{inside-between}
 use Rattle.sound.proofs.Holding.{text-bytes, text-zero, without-append}
 use Rattle.walk.specs.Marks.{canTake}
 use Rattle.walk.specs.Machine.{taken, done}
-use Rattle.walk.specs.Model.{fieldAt, linkAt, placeAt, nameFrom, nameAt, span, nodeRoom, enterAt, ownWork, parentAt, cameAt}
+use Rattle.walk.specs.Model.{linkAt, placeAt, nameAt, span, nodeRoom, enterAt, ownWork, parentAt, cameAt}
 use Rattle.walk.proofs.Growing.{Grew, grew-refl, grew-trans, numberMax, Owned, owned-grew, Prefix, more, prefix-grew}
 use Rattle.walk.proofs.MarkLaws.{counted, can-at}
 use Rattle.walk.proofs.NodeLaws.{NodeFits, room-of}
 use Rattle.walk.proofs.Entering.{Entered, entered-inv, enter-of, own-grew}
-use Rattle.walk.proofs.Scanning.{name-length, holds-span}
+use Rattle.walk.proofs.Scanning.{holds-span}
 use Rattle.walk.proofs.WorksBack.{Worked, own-done}
 use Rattle.walk.proofs.Made.{Under, under-left, under-below, under-right, under-entered}
 use Rattle.walk.proofs.MachineLaws.{Shape, tip, fork, steps, Walked, none, some}

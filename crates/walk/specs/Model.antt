@@ -1,8 +1,8 @@
 -- The walk over an area's bytes, as the code makes it: node n stands at data offset 4n, its record in the first six of its marks.
 use Prim.Native.Nat.{ℕ, zero, suc, _+_, _-_, _*_, _/_, _%_}
 use mathlib.Core.Bool.{Bool, true, false, cond, not, _&&_}
-use mathlib.Core.List.{List, [], _∷_, _++_}
-use lib.ListN.{length, getD}
+use mathlib.Core.List.{List, [], _∷_}
+use lib.ListN.{getD}
 use lib.Dec.{eqb, leb, ltb}
 use Rattle.words.specs.Words.{firstIn}
 use Rattle.names.specs.Names.{dot, segmentOrder}
