@@ -6,7 +6,7 @@
  *
  * A refusal has a number:
  *   1 zero byte in an added name   2 empty segment in a name   3 no such name   4 no room   5 the area is damaged
- *   6 too long   7 a long entry is not updated   8 the header, or the length, is no area's   9 a size over 32 bits
+ *   6 too long   7 a long entry is not updated   8 the header, or the length, is no area's   9 a size over 32 bits   10 scratch or list is too short
  * A number returned alone is 0 for accepted, else the refusal. Refusals 1, 2, 3, 8, and every refusal of pa_update, leave every byte.
  */
 #ifndef PROPERTY_AREA_H
@@ -31,6 +31,11 @@ typedef struct {
     uint64_t length;
 } pa_part;
 
+/* refusal 0: so many entries. Where refused the count is 0. */
+typedef struct {
+    uint32_t refusal, count;
+} pa_count;
+
 /* Makes the whole buffer a fresh area: 0, or 8 where area_len is not 240 to 131,072. */
 uint32_t pa_format(uint8_t *area, size_t area_len);
 
@@ -52,6 +57,13 @@ uint32_t pa_raw_update(uint8_t *area, size_t area_len, uint32_t entry, const uin
 
 /* Fills the buffer with the first buffer_len bytes of the backup slot: 0, or 8, 6 (92 bytes or more wanted), 5. A refusal keeps the buffer. */
 uint32_t pa_backup_read(const uint8_t *area, size_t area_len, uint8_t *buffer, size_t buffer_len);
+
+/* Whether the area is sound: 0, or 8, 10 (scratch_len under area_len / 4), 5. Scratch may hold anything; all of it ends zero unless 8 or 10 is given. */
+uint32_t pa_check(const uint8_t *area, size_t area_len, uint8_t *scratch, size_t scratch_len);
+
+/* Writes the offsets of a sound area's entries to the list, in the tree's order: left side, own entry, children, right side. Refused as pa_check does,
+ * then 10 where the list has fewer places than there are entries. A refusal keeps the list, which is aligned to 4; places beyond the entries stay. */
+pa_count pa_list(const uint8_t *area, size_t area_len, uint8_t *scratch, size_t scratch_len, uint32_t *list, size_t places);
 
 /* How many updates lie between two serials of one entry, the earlier first, if fewer than 32,768. */
 uint32_t pa_update_distance(uint32_t earlier, uint32_t later);

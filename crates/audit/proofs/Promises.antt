@@ -20,6 +20,7 @@ use Rattle.sound.specs.Tree.{Entry, bare, entry, Tree, leaf, node, listedOwn, l
 use Rattle.sound.specs.Sound.{Sound}
 use Rattle.sound.specs.Ways.{nodes}
 use Rattle.sound.proofs.Counting.{nodes-few}
+use Rattle.sound.proofs.Promises.{one-tree}
 use Rattle.audit.specs.Check.{usedOf, Judged, sound, unsound, blank, scratchMin, surveySteps, checkSteps, lists, listedAnswer, listSteps}
 use Rattle.audit.specs.declared.checking.Listed.{Listed}
 use Rattle.audit.proofs.CheckLaws.{judge}
@@ -40,6 +41,15 @@ module _ (area scratch : List ℕ) (header : headerOk area ≡ true) (room : len
   unfolding surveySteps
   check-refuses none (sound tree S) = absurd (none tree S)
   check-refuses none (unsound other) = rw (header, le-leb (length area / wordSize) (length scratch) room) refl
+
+  -- and listed, if the list has the places: the offsets of its tree's entries, in the tree's order; list places beyond them stay
+  pub list-accepts : (list : List ℕ) (tree : Tree) → Sound area (usedOf area) tree → length (listed tree) ≤ length list
+      → (judged : Judged area) → listSteps area scratch list judged ≡ lists (accepted (length (listed tree))) (blank scratch) (put list 0 (listed tree))
+  unfolding surveySteps
+  list-accepts list tree S long (sound other T) =
+      let e : other ≡ tree = one-tree area (usedOf area) other tree T S in
+      rw (header, le-leb (length area / wordSize) (length scratch) room, e, le-leb (length (listed tree)) (length list) long) refl
+  list-accepts list tree S long (unsound none) = absurd (none tree S)
 
 -- no second outcome
 pub one-check : (area scratch : List ℕ) (v w : Verdict) (a b : List ℕ) → ((judged : Judged area) → leaves (verdictNumber v) a ≡ checkSteps area scratch judged)

@@ -21,17 +21,13 @@ use Rattle.property_area.specs.declared.trie.Searched.{Searched}
 use Rattle.property_area.specs.Header.{headerOk}
 use Rattle.property_area.specs.Trie.{nodesMax, searchFrom}
 use Rattle.property_area.proofs.HeaderLaws.{header-min}
-use Rattle.builder.specs.Steps.{Step, goes, stops, stopBy, withRooms, andThen}
+use Rattle.builder.specs.Steps.{total, Step, goes, stops, stopBy, withRooms, andThen}
 use Rattle.builder.specs.Allocate.{allocate}
 use Rattle.builder.specs.Nodes.{nodeStores, layNode, newNode, linkTo, hangNode, orHang, addNode, addSegment, addPath}
 use Rattle.builder.specs.Entries.{layEntry, longEntry, newEntry, addEntry}
 use Rattle.builder.specs.Add.{nameVerdict, addSteps}
 
-abbrev pub total : List ℕ → ℕ
-total [] = 0
-total (room ∷ rooms) = room + total rooms
-
-total-append : (a b : List ℕ) → total (a ++ b) ≡ total a + total b
+pub total-append : (a b : List ℕ) → total (a ++ b) ≡ total a + total b
 total-append [] b = omega arith
 total-append (r ∷ a) b = omega (arith, total-append a b)
 

@@ -1,6 +1,6 @@
 -- What a step that writes comes to: its result, or a refusal's number; the bytes afterwards; and the rooms that it gave to objects.
-use Prim.Native.Nat.{ℕ}
-use mathlib.Core.List.{List, [], _++_}
+use Prim.Native.Nat.{ℕ, _+_}
+use mathlib.Core.List.{List, [], _∷_, _++_}
 use Rattle.layout.specs.declared.refusal.Refusal.{Refusal}
 use Rattle.layout.specs.Refusals.{numberOf, noRefusal, Outcome, acceptLeaving, leaves}
 use Rattle.builder.specs.declared.allocation.Placed.{Placed}
@@ -22,6 +22,11 @@ withRooms given (stops number area rooms) = stops number area (given ++ rooms)
 abbrev pub andThen : Step → (ℕ → List ℕ → Step) → Step
 andThen (goes at area rooms) on = withRooms rooms (on at area)
 andThen (stops number area rooms) on = stops number area rooms
+
+-- the sum of rooms
+abbrev pub total : List ℕ → ℕ
+total [] = 0
+total (room ∷ rooms) = room + total rooms
 
 -- what a caller sees of it: all but the rooms
 unfoldable pub seen : Step → Step

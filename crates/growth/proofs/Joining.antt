@@ -91,23 +91,3 @@ reached-plug (dir ∷ way) leaf other h = absurd h
 reached-plug (dir ∷ way) (node at name own left below right) other h =
     ap (λ t. reached t way) (toward-hang dir at name own left below right (plug (toward dir (node at name own left below right)) way other))
     ∙ reached-plug way (toward dir (node at name own left below right)) other h
-
-pub prefix-plug : (way : List Dir) (prefix : List ℕ) (tree other : Tree) → Along tree way → prefixAt prefix (plug tree way other) way ≡ prefixAt prefix tree way
-unfolding Along prefixAt plug
-prefix-plug [] prefix tree other h = refl
-prefix-plug (dir ∷ way) prefix leaf other h = absurd h
-prefix-plug (dir ∷ way) prefix (node at name own left below right) other h =
-    rw (
-      prefix-hang prefix dir at name own left below right (plug (toward dir (node at name own left below right)) way other),
-      toward-hang dir at name own left below right (plug (toward dir (node at name own left below right)) way other),
-    ) (prefix-plug way (prefixToward prefix dir (node at name own left below right)) (toward dir (node at name own left below right)) other h)
-
-pub link-plug : (way : List Dir) (place : ℕ) (tree other : Tree) → Along tree way → linkPlace place (plug tree way other) way ≡ linkPlace place tree way
-unfolding Along linkPlace plug
-link-plug [] place tree other h = refl
-link-plug (dir ∷ way) place leaf other h = absurd h
-link-plug (dir ∷ way) place (node at name own left below right) other h =
-    rw (
-      field-hang place dir at name own left below right (plug (toward dir (node at name own left below right)) way other),
-      toward-hang dir at name own left below right (plug (toward dir (node at name own left below right)) way other),
-    ) (link-plug way (placeOf at (linkField dir)) (toward dir (node at name own left below right)) other h)

@@ -7,9 +7,8 @@ use mathlib.Core.Path.{_≡_, refl, sym, ap, _∙_}
 use mathlib.Core.List.{List, [], _∷_, _++_, append-nil, append-assoc}
 use lib.ListN.{length}
 use Rattle.layout.specs.Layout.{dataSize, nodeTakes}
-use Rattle.builder.specs.Steps.{goes, stops}
+use Rattle.builder.specs.Steps.{goes, stops, total}
 use Rattle.builder.specs.Nodes.{addPath}
-use Rattle.builder.proofs.Used.{total}
 use Rattle.sound.specs.Tree.{Entry, Tree, leaf, node}
 use Rattle.sound.specs.Sound.{Sound}
 use Rattle.sound.specs.Ways.{Dir, toBelow, reached}

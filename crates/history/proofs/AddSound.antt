@@ -6,24 +6,24 @@ use mathlib.Core.Path.{_≡_, refl, sym, ap, _∙_}
 use mathlib.Core.Logic.{_≢_}
 use mathlib.Core.List.{List, [], _++_}
 use lib.ListN.{length}
+use Rattle.lookup.specs.Look.{shows}
 use Rattle.names.specs.Names.{segments}
 use Rattle.layout.specs.declared.refusal.Refusal.{Refusal}
 use Rattle.layout.specs.declared.refusal.Verdict.{Verdict}
 use Rattle.layout.specs.Layout.{dataSize, rootAt, entryTakes}
-use Rattle.builder.specs.Steps.{Step, goes, stops, stopBy, andThen, withRooms}
+use Rattle.builder.proofs.Used.{total-append}
+use Rattle.builder.specs.Steps.{Step, goes, stops, stopBy, andThen, withRooms, total}
 use Rattle.builder.specs.Nodes.{addPath}
 use Rattle.builder.specs.Entries.{addEntry}
 use Rattle.builder.specs.Add.{nameVerdict, addSteps}
-use Rattle.builder.proofs.Used.{total}
 use Rattle.sound.specs.Tree.{Value, Entry, bare, entry, Tree, node}
 use Rattle.sound.specs.Sound.{Sound}
 use Rattle.sound.specs.Ways.{reached}
 use Rattle.growth.specs.Plug.{plug}
 use Rattle.growth.proofs.Rules.{prefixAt}
 use Rattle.lookup.proofs.Spelling.{one-name}
-use Rattle.lookup.proofs.ValueReads.{shows}
 use Rattle.history.specs.History.{upToZero}
-use Rattle.history.specs.Lack.{seek, entryOf, missing, entryNeeds, ownLacks, lacks, fullNumber}
+use Rattle.history.specs.Lack.{seek, entryOf, missing, entryRooms, entryNeeds, ownLacks, lacks, fullNumber}
 use Rattle.history.proofs.Leading.{names-spelled, finds-own, finds-new, finds-others}
 use Rattle.history.proofs.Stood.{atRoot, above}
 use Rattle.history.proofs.Hung.{hung-seek}
@@ -45,10 +45,10 @@ pub data AddDone (area : List ℕ) (used : ℕ) (tree : Tree) (name value : List
       → AddDone area used tree name value step
   -- it has an entry already
   stays : (at : ℕ) (b rooms : List ℕ) (grown : ℕ) (now : Tree) (serial : ℕ) (v : Value) → nameVerdict name ≡ Verdict.Accepted → used + lacks tree name value ≤ dataSize area
-      → step ≡ goes at b rooms → entryOf tree name ≡ entry at serial name v → Sound b grown now → Alike tree now → AddDone area used tree name value step
+      → step ≡ goes at b rooms → total rooms ≡ lacks tree name value → entryOf tree name ≡ entry at serial name v → Sound b grown now → Alike tree now → AddDone area used tree name value step
   -- it has one now, which shows the value
   adds : (at : ℕ) (b rooms : List ℕ) (grown : ℕ) (now : Tree) (serial : ℕ) (v : Value) → nameVerdict name ≡ Verdict.Accepted → used + lacks tree name value ≤ dataSize area
-      → step ≡ goes at b rooms → entryOf tree name ≡ bare → Sound b grown now → entryOf now name ≡ entry at serial name v → shows v ≡ upToZero value
+      → step ≡ goes at b rooms → total rooms ≡ lacks tree name value → entryOf tree name ≡ bare → Sound b grown now → entryOf now name ≡ entry at serial name v → shows v ≡ upToZero value
       → ((other : List ℕ) → other ≢ name → entryOf now other ≡ entryOf tree other) → AddDone area used tree name value step
 
 lacks-bare : (tree : Tree) (name value : List ℕ) → entryOf tree name ≡ bare → lacks tree name value ≡ missing (segments name) tree + entryNeeds name value
@@ -107,16 +107,22 @@ module _ (area : List ℕ) (used : ℕ) (tree : Tree) (sound : Sound area used t
       unfolding reached
       sized = W .given
 
+      sums : total (W .rooms) + total (entryRooms name value) ≡ missing (segments name) tree + entryNeeds name value
+      unfolding entryNeeds
+      sums = ap (λ (k : ℕ). k + total (entryRooms name value)) sized
+
       by : EntryAdded (W .after) (used + total (W .rooms)) (W .now) (there .way) (W .at) (there .name) (there .own) (there .left) (there .below) (there .right) name value
           (addEntry (W .after) name value (W .at)) → AddDone area used tree name value (addSteps area name value)
       by (kept far serial v own is) =
           stays far (W .after) (W .rooms ++ []) (used + total (W .rooms)) (W .now) serial v named
-          (omega (arith, fits, lacks-some tree name value far serial name v (has ∙ own))) (onEntry _ is) (has ∙ own) (W .sound) same
+          (omega (arith, fits, lacks-some tree name value far serial name v (has ∙ own))) (onEntry _ is)
+          (omega (arith, total-append (W .rooms) [], sized, lacks-some tree name value far serial name v (has ∙ own))) (has ∙ own) (W .sound) same
       by (added b serial v own room is S laid) =
           let new : Entry = entry (used + total (W .rooms)) serial name v in
           adds (used + total (W .rooms)) b _ (used + total (W .rooms) + entryNeeds name value)
           (plug (W .now) (there .way) (node (W .at) (there .name) new (there .left) (there .below) (there .right))) serial v named
-          (omega (arith, room, sized, lacks-bare tree name value (has ∙ own), size)) (onEntry _ is) (has ∙ own) S
+          (omega (arith, room, sized, lacks-bare tree name value (has ∙ own), size)) (onEntry _ is)
+          (total-append (W .rooms) (entryRooms name value) ∙ sums ∙ sym (lacks-bare tree name value (has ∙ own))) (has ∙ own) S
           (ap (λ (n : List ℕ). seek (segments n) bare (plug (W .now) (there .way) (node (W .at) (there .name) new (there .left) (there .below) (there .right)))) whole
           ∙ finds-new (W .at) (there .name) (there .own) (there .left) (there .below) (there .right) (there .way) (W .now) (there .there) (W .sound .rule) new)
           (laid-shows (used + total (W .rooms)) name value serial v laid)

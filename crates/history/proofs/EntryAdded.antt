@@ -5,6 +5,7 @@ use mathlib.Core.Path.{_≡_}
 use mathlib.Core.List.{List, [], _∷_}
 use lib.ListN.{length}
 use borrow.Author.Tests.{lt-ltb, le-ltb}
+use Rattle.lookup.specs.Look.{shows}
 use Rattle.layout.specs.Layout.{slotSize, lengthUnit, dataSize, entryTakes, valueTakes}
 use Rattle.property_info.specs.Written.{longSerial}
 use Rattle.builder.specs.Steps.{Step, goes, stops}
@@ -12,7 +13,6 @@ use Rattle.sound.specs.Tree.{Value, short, long, Entry, bare, entry, Tree, node
 use Rattle.sound.specs.Sound.{Sound}
 use Rattle.sound.specs.Ways.{Dir}
 use Rattle.growth.specs.Plug.{plug}
-use Rattle.lookup.proofs.ValueReads.{shows}
 use Rattle.history.specs.Lack.{entryNeeds, entryRooms, fullNumber}
 use Rattle.history.specs.History.{upToZero}
 
@@ -62,20 +62,3 @@ pub laid-shows : (at : ℕ) (name value : List ℕ) (serial : ℕ) (v : Value) �
 unfolding Laid shows
 laid-shows at name value serial (short slot) h = h .2
 laid-shows at name value serial (long far text) h = h .3
-
--- ---- where none was, it goes exactly if what is needed fits
-module _ (area : List ℕ) (used : ℕ) (tree : Tree) (way : List Dir) (at : ℕ) (name : List ℕ) (own : Entry) (left below right : Tree) (full value : List ℕ) (step : Step)
-    (none : own ≡ bare) where
-  pub fits-goes : EntryAdded area used tree way at name own left below right full value step → used + entryNeeds full value ≤ dataSize area
-      → (b : List ℕ) × (step ≡ goes used b (entryRooms full value))
-  fits-goes (kept far serial v is e) fits = absurd (let q : _≡_ {A = ℕ} 0 1 = cc in omega arith)
-  fits-goes (added b serial v is room e sound laid) fits = (b, e)
-  fits-goes (noEntry is past e) fits = absurd (omega (arith, needs-least full value))
-  fits-goes (noValue b is room past e sound) fits = absurd (omega arith)
-
-  pub past-stops : EntryAdded area used tree way at name own left below right full value step → dataSize area < used + entryNeeds full value
-      → (number : ℕ) × (b : List ℕ) × (rooms : List ℕ) × (step ≡ stops number b rooms)
-  past-stops (kept far serial v is e) past = absurd (let q : _≡_ {A = ℕ} 0 1 = cc in omega arith)
-  past-stops (added b serial v is fits e sound laid) past = absurd (omega arith)
-  past-stops (noEntry is full e) past = (_, _, _, e)
-  past-stops (noValue b is room full e sound) past = (_, _, _, e)

@@ -10,7 +10,7 @@ use Rattle.sound.specs.Tree.{Entry, bare, Tree, leaf, node}
 use Rattle.sound.specs.Ways.{Dir, toLeft, toBelow, toRight, toward, reached}
 use Rattle.growth.specs.Plug.{hang, plug}
 use Rattle.growth.proofs.Rules.{prefixAt, Placed}
-use Rattle.growth.proofs.Joining.{Along, along-placed, reached-plug}
+use Rattle.growth.proofs.Joining.{Along, along-placed}
 use Rattle.lookup.specs.Look.{turn, spot}
 use Rattle.history.specs.Lack.{seek}
 use Rattle.history.proofs.Seeking.{seek-node}
@@ -54,10 +54,6 @@ module _ (segment : List ℕ) (at : ℕ) (own : Entry) (left below right : Tree)
       by Equal is e f = rw (order-self segment)
       by Less is e f = rw (is, e)
       by Greater is e f = rw (is, f)
-
-  pub spot-reached : (tree : Tree) → reached (plug tree (spot segment tree) (node at segment own left below right))
-      (spot segment (plug tree (spot segment tree) (node at segment own left below right))) ≡ node at segment own left below right
-  spot-reached tree = rw (spot-plug tree) (reached-plug (spot segment tree) tree (node at segment own left below right) (spot-along segment tree))
 
 -- ---- two nodes of one name, and what names find left, below and right of them
 pub seek-alike : (segment : List ℕ) (rest : List (List ℕ)) (above : Entry) (at : ℕ) (name : List ℕ) (own own′ : Entry) (left left′ below below′ right right′ : Tree)

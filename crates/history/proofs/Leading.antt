@@ -12,7 +12,7 @@ use Rattle.sound.specs.Tree.{Value, short, Entry, bare, entry, Tree, leaf, node
 use Rattle.sound.specs.Sound.{ValueRule, EntryRule, TreeRule}
 use Rattle.sound.specs.Ways.{Dir, toLeft, toBelow, toRight, toward, reached}
 use Rattle.growth.specs.Plug.{hang, plug}
-use Rattle.growth.proofs.Rules.{prefixAt, Placed, rule-plug-own}
+use Rattle.growth.proofs.Rules.{prefixAt, rule-plug-own}
 use Rattle.growth.proofs.Joining.{Along, along-reached, reached-plug}
 use Rattle.lookup.specs.Look.{turn, spot}
 use Rattle.lookup.proofs.Spelling.{ownOf, namesTo, one-name, spells}
@@ -92,28 +92,8 @@ module _ (at serial : ℕ) (name : List ℕ) (value : Value) where
       spells tree (there .way) at serial name value rule (ap ownOf (there .is)) ∙ there .names
 
 -- ---- a way to a node, and on among its children
--- the search of a segment adds its name alone
-pub placed-names : (way : List Dir) (segment : List ℕ) (tree : Tree) (at : ℕ) (name : List ℕ) (own : Entry) (left below right : Tree) → Placed segment tree way
-    → reached tree way ≡ node at name own left below right → namesTo tree way ≡ segment ∷ []
-unfolding reached toward namesTo Placed
-placed-names [] segment leaf at name own left below right placed is = absurd (let q : _≡_ {A = ℕ} 0 1 = cc in omega arith)
-placed-names [] segment (node place other next l b r) at name own left below right placed is = rw placed
-placed-names (dir ∷ way) segment leaf at name own left below right placed is = absurd placed
-placed-names (toLeft ∷ way) segment (node place other next l b r) at name own left below right placed is = placed-names way segment l at name own left below right (placed .1) is
-placed-names (toBelow ∷ way) segment (node place other next l b r) at name own left below right placed is = absurd placed
-placed-names (toRight ∷ way) segment (node place other next l b r) at name own left below right placed is = placed-names way segment r at name own left below right (placed .1) is
-
 -- ---- at a node that a way reaches
 module _ (at : ℕ) (name : List ℕ) (own : Entry) (left below right : Tree) where
-  pub names-below : (way more : List Dir) (tree : Tree) → reached tree way ≡ node at name own left below right
-      → namesTo tree (way ++ toBelow ∷ more) ≡ namesTo tree way ++ namesTo below more
-  unfolding reached toward namesTo Along
-  names-below [] more tree is = rw is
-  names-below (dir ∷ way) more leaf is = absurd (along-reached (dir ∷ way) leaf at name own left below right is)
-  names-below (toLeft ∷ way) more (node place other next l b r) is = names-below way more l is
-  names-below (toBelow ∷ way) more (node place other next l b r) is = rw (names-below way more b is)
-  names-below (toRight ∷ way) more (node place other next l b r) is = names-below way more r is
-
   pub names-plug : (way : List Dir) (tree : Tree) (new : Entry) (under : Tree) → reached tree way ≡ node at name own left below right
       → namesTo (plug tree way (node at name new left under right)) way ≡ namesTo tree way
   unfolding reached toward plug hang namesTo Along

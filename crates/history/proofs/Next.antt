@@ -8,6 +8,7 @@ use mathlib.Core.List.{List, [], _∷_}
 use mathlib.Core.Option.{Option, none, some}
 use lib.ListN.{length}
 use lib.Dec.{eqb}
+use Rattle.lookup.specs.Look.{shows}
 use Rattle.words.specs.Words.{sameBytes}
 use Rattle.words.proofs.Laws.{bool-cases}
 use Rattle.words.proofs.Promises.{same-eq, same-self}
@@ -18,14 +19,13 @@ use Rattle.layout.specs.Layout.{usedField, headerWord}
 use Rattle.layout.specs.Refusals.{numberOf, noRefusal, Outcome, leaves}
 use Rattle.property_info.specs.Serial.{updatedSerial}
 use Rattle.counters.specs.Distance.{serialAfter}
-use Rattle.builder.specs.Steps.{Step, goes, stops, outcome}
+use Rattle.builder.specs.Steps.{Step, goes, stops, outcome, total}
 use Rattle.builder.specs.Add.{nameVerdict, addSteps}
-use Rattle.builder.proofs.Used.{total, Moves, Moved, used-moves}
+use Rattle.builder.proofs.Used.{Moves, Moved, used-moves}
 use Rattle.updates.specs.Update.{updateSteps}
 use Rattle.sound.specs.Tree.{Value, short, Entry, bare, entry, Tree, node}
 use Rattle.sound.specs.Sound.{Sound}
 use Rattle.growth.specs.Plug.{plug}
-use Rattle.lookup.proofs.ValueReads.{shows}
 use Rattle.lookup.proofs.Promises.{find-refusals}
 use Rattle.history.specs.History.{Op, add, update, call, numberIn, bytesIn, upToZero, opName, hear, heeded, sizeIn, roomsIn, opRooms}
 use Rattle.history.specs.Lack.{seek, entryOf, fullNumber}
@@ -167,11 +167,11 @@ module _ (area : List ℕ) (used : ℕ) (tree : Tree) (sound : Sound area used t
   by-add (noRoom wanted b rooms grown now e over within is S same) =
       let w = room-numbers (fullNumber wanted) (full-number wanted) in
       next-refused area used tree (add name value) (fullNumber wanted) b (is-of _ is) grown now S (marked _ is b grown now refl S) (w .1) (λ n. same (segments n) bare) (w .0)
-  by-add (stays at b rooms grown now serial v e fits is has S same) =
+  by-add (stays at b rooms grown now serial v e fits is sum has S same) =
       next-accepted area used tree (add name value) b (is-of _ is) grown now S (marked _ is b grown now refl S) (λ other d. same (segments other) bare)
       (λ before m. subst (λ (x : Entry). Matches x (hear (add name value) before)) (sym (same (segments name) bare)) (hears-kept (entryOf tree name) at serial v before has m))
       (lasts-same (entryOf tree name) (entryOf now name) (same (segments name) bare))
-  by-add (adds at b rooms grown now serial v e fits is has S new shown others) =
+  by-add (adds at b rooms grown now serial v e fits is sum has S new shown others) =
       next-accepted area used tree (add name value) b (is-of _ is) grown now S (marked _ is b grown now refl S) others
       (λ before m. hears-new (entryOf tree name) (entryOf now name) at serial v before has new shown m)
       (record { lasts = λ far s full w h. absurd (let q : bare ≡ entry far s full w = sym has ∙ h in let z : _≡_ {A = ℕ} 0 1 = cc in omega arith) })

@@ -11,12 +11,12 @@ use Rattle.layout.specs.declared.refusal.Verdict.{Verdict}
 use Rattle.layout.specs.Layout.{wordMax, slotSize, dataSize}
 use Rattle.layout.specs.Refusals.{accepted, refused, numberOf, noRefusal}
 use Rattle.property_area.specs.Find.{hit}
-use Rattle.builder.specs.Steps.{Step, outcome}
+use Rattle.builder.specs.Steps.{Step, outcome, total}
 use Rattle.builder.specs.Add.{nameVerdict, addSteps}
 use Rattle.updates.specs.Update.{updateSteps}
 use Rattle.sound.specs.Tree.{Value, short, long, bare, entry, Tree}
 use Rattle.sound.specs.Sound.{Sound}
-use Rattle.history.specs.History.{add, update, call, numberIn}
+use Rattle.history.specs.History.{add, update, call, numberIn, roomsIn, opRooms}
 use Rattle.history.specs.Lack.{seek, entryOf, lacks}
 use Rattle.history.proofs.Rooms.{which-number}
 use Rattle.history.proofs.Leading.{finds-own}
@@ -25,17 +25,17 @@ use Rattle.history.proofs.UpdateSound.{Stands, UpdateDone, unfound, lon
 use Rattle.history.proofs.Entries.{entry-found}
 
 module _ (area : List ℕ) (used : ℕ) (tree : Tree) (sound : Sound area used tree) (name value : List ℕ) where
-  -- an add whose name is neither 1 nor 2 is accepted exactly when used plus all missing padded sizes is at most data size
+  -- an add whose name is neither 1 nor 2 is accepted if used plus all missing padded sizes is at most data size
   pub add-accepted : nameVerdict name ≡ Verdict.Accepted → used + lacks tree name value ≤ dataSize area → numberIn (call area (add name value)) ≡ noRefusal
   add-accepted named fits = by (add-sound area used tree sound name value)
     where
       by : AddDone area used tree name value (addSteps area name value) → numberIn (outcome (addSteps area name value)) ≡ noRefusal
       by (badName why e is) = absurd (let q : Verdict.Accepted ≡ Verdict.Refused why = sym named ∙ e in let z : _≡_ {A = ℕ} 0 1 = cc in omega arith)
       by (noRoom wanted b rooms grown now e over within is S same) = absurd (omega (arith, over, within, fits))
-      by (stays at b rooms grown now serial v e room is has S same) = ap (λ (s : Step). numberIn (outcome s)) is
-      by (adds at b rooms grown now serial v e room is has S new shown others) = ap (λ (s : Step). numberIn (outcome s)) is
+      by (stays at b rooms grown now serial v e room is sum has S same) = ap (λ (s : Step). numberIn (outcome s)) is
+      by (adds at b rooms grown now serial v e room is sum has S new shown others) = ap (λ (s : Step). numberIn (outcome s)) is
 
-  -- else it is 4, or 9 where the sum passes 32 bits
+  -- and refused if not: with 4 or 9, and 9 only where that sum passes 32 bits
   pub add-refused : nameVerdict name ≡ Verdict.Accepted → dataSize area < used + lacks tree name value
       → (numberIn (call area (add name value)) ≡ numberOf Refusal.NoRoom) ⊎ ((numberIn (call area (add name value)) ≡ numberOf Refusal.TooLarge) × (wordMax < used + lacks tree name value))
   add-refused named over = by (add-sound area used tree sound name value)
@@ -44,8 +44,18 @@ module _ (area : List ℕ) (used : ℕ) (tree : Tree) (sound : Sound area used t
           → (numberIn (outcome (addSteps area name value)) ≡ numberOf Refusal.NoRoom) ⊎ ((numberIn (outcome (addSteps area name value)) ≡ numberOf Refusal.TooLarge) × (wordMax < used + lacks tree name value))
       by (badName why e is) = absurd (let q : Verdict.Accepted ≡ Verdict.Refused why = sym named ∙ e in let z : _≡_ {A = ℕ} 0 1 = cc in omega arith)
       by (noRoom wanted b rooms grown now e full within is S same) = which-number wanted _ (used + lacks tree name value) within (ap (λ (s : Step). numberIn (outcome s)) is)
-      by (stays at b rooms grown now serial v e room is has S same) = absurd (omega (arith, over, room))
-      by (adds at b rooms grown now serial v e room is has S new shown others) = absurd (omega (arith, over, room))
+      by (stays at b rooms grown now serial v e room is sum has S same) = absurd (omega (arith, over, room))
+      by (adds at b rooms grown now serial v e room is sum has S new shown others) = absurd (omega (arith, over, room))
+
+  -- an accepted add gives room to what is missing and to nothing else
+  pub add-rooms : nameVerdict name ≡ Verdict.Accepted → used + lacks tree name value ≤ dataSize area → total (opRooms area (add name value)) ≡ lacks tree name value
+  add-rooms named fits = by (add-sound area used tree sound name value)
+    where
+      by : AddDone area used tree name value (addSteps area name value) → total (roomsIn (addSteps area name value)) ≡ lacks tree name value
+      by (badName why e is) = absurd (let q : Verdict.Accepted ≡ Verdict.Refused why = sym named ∙ e in let z : _≡_ {A = ℕ} 0 1 = cc in omega arith)
+      by (noRoom wanted b rooms grown now e over within is S same) = absurd (omega (arith, over, within, fits))
+      by (stays at b rooms grown now serial v e room is sum has S same) = ap (λ (s : Step). total (roomsIn s)) is ∙ sum
+      by (adds at b rooms grown now serial v e room is sum has S new shown others) = ap (λ (s : Step). total (roomsIn s)) is ∙ sum
 
   -- an update of a short entry with a value under 92 bytes is accepted
   pub update-accepted : (at serial : ℕ) (slot : List ℕ) → entryOf tree name ≡ entry at serial name (short slot) → length value < slotSize → numberIn (call area (update name value)) ≡ noRefusal

@@ -2,35 +2,34 @@
 use Prim.Native.Nat.{ℕ, _+_, _-_, _/_, _≤_, _<_}
 use native.Mathlib.Omega.{arith}
 use mathlib.Core.Path.{_≡_, refl, sym, subst, _∙_}
+use mathlib.Core.Bool.{false}
 use mathlib.Core.List.{List, [], _∷_}
 use mathlib.Core.Option.{Option, none, some}
 use lib.ListN.{length}
+use Rattle.words.specs.Words.{put}
+use Rattle.builder.specs.Steps.{total}
 use Rattle.names.specs.Names.{segments}
 use Rattle.layout.specs.declared.refusal.Refusal.{Refusal}
-use Rattle.layout.specs.declared.refusal.Verdict.{Verdict}
 use Rattle.layout.specs.Layout.{areaMax, serialField, firstFree, formatMin, wordAt, headerWord, usedField}
 use Rattle.layout.specs.Refusals.{accepted, refused, refuse, acceptLeaving}
 use Rattle.property_area.specs.Find.{hit, findSteps}
 use Rattle.counters.specs.Distance.{positions, distance, serialAfter}
 use Rattle.counters.proofs.Promises.{distance-counts}
 use Rattle.builder.specs.Fresh.{fresh}
-use Rattle.builder.specs.Add.{nameVerdict}
-use Rattle.builder.proofs.Used.{total}
+use Rattle.builder.specs.Add.{anyEmpty}
 use Rattle.sound.specs.Tree.{Value, Entry, bare, entry, Tree, leaf, listed}
 use Rattle.sound.specs.Sound.{Has, Sound}
 use Rattle.sound.specs.Ways.{reached}
 use Rattle.sound.proofs.Promises.{one-tree, one-mark}
-use Rattle.lookup.specs.Look.{spot, look}
-use Rattle.lookup.proofs.Costs.{costs}
+use Rattle.lookup.specs.Look.{spot, look, costs}
 use Rattle.lookup.proofs.Promises.{find-cost, costs-bound, own-found}
-use Rattle.audit.specs.Check.{Judged, blank, scratchMin, checkSteps}
-use Rattle.audit.proofs.Promises.{check-accepts}
+use Rattle.audit.specs.Check.{Judged, blank, scratchMin, checkSteps, lists, listSteps}
+use Rattle.audit.proofs.Promises.{check-accepts, list-accepts}
 use Rattle.history.specs.History.{Op, call, numberIn, after, shown, told, asShown, Shows, updateSizes, given}
 use Rattle.history.specs.Lack.{seek, entryOf}
 use Rattle.history.proofs.FreshSound.{fresh-sound}
 use Rattle.history.proofs.Entries.{serial-read, entry-found, entry-listed, found-entry, listed-held}
 use Rattle.history.proofs.Seeking.{look-none}
-use Rattle.history.proofs.Naming.{none-empty}
 use Rattle.history.proofs.Showing.{shown-which}
 use Rattle.history.proofs.Next.{Undamaged, Matches, next}
 use Rattle.history.proofs.Run.{ran, matched-shows, shown-matches}
@@ -40,7 +39,7 @@ module _ (area : List ℕ) (used : ℕ) (tree : Tree) (sound : Sound area used t
   pub run-sound : (grown : ℕ) × (now : Tree) × Sound (after area ops) grown now
   run-sound = let r = ran ops area used tree sound in (r .grown, r .now, r .sound)
 
-  -- a lookup shows the value of a name's last accepted update, or else of its first accepted add, or else what it showed before the run
+  -- a lookup shows the value of a name's last accepted update, or else what it showed before the run, or else the value of its first accepted add
   pub run-shows : (name : List ℕ) → Shows (shown (after area ops) name) (told area name ops (asShown (shown area name)))
   run-shows name =
       let r = ran ops area used tree sound in
@@ -50,8 +49,8 @@ module _ (area : List ℕ) (used : ℕ) (tree : Tree) (sound : Sound area used t
   pub run-which : (grown : ℕ) (now : Tree) → Sound (after area ops) grown now → (name : List ℕ) (number : ℕ) → look (segments name) bare now 0 ≡ refused number → shown (after area ops) name ≡ refused number
   run-which grown now S name number e = shown-which (after area ops) grown now S name number e
 
-  -- a well-formed name that was told no value is missing (3)
-  pub run-missing : (name : List ℕ) → nameVerdict name ≡ Verdict.Accepted → told area name ops (asShown (shown area name)) ≡ none → shown (after area ops) name ≡ refuse Refusal.Missing
+  -- a name without an empty segment that was told no value is missing (3)
+  pub run-missing : (name : List ℕ) → anyEmpty (segments name) ≡ false → told area name ops (asShown (shown area name)) ≡ none → shown (after area ops) name ≡ refuse Refusal.Missing
   run-missing name named e =
       let r = ran ops area used tree sound in
       by (entryOf (r .now) name) refl (subst (λ (t : Option (List ℕ)). Matches (entryOf (r .now) name) t) e (r .tells name _ (shown-matches area used tree sound name (entryOf tree name) refl)))
@@ -59,14 +58,14 @@ module _ (area : List ℕ) (used : ℕ) (tree : Tree) (sound : Sound area used t
       by : (own : Entry) → entryOf (ran ops area used tree sound .now) name ≡ own → Matches (entryOf (ran ops area used tree sound .now) name) none → shown (after area ops) name ≡ refuse Refusal.Missing
       by bare h m =
           let r = ran ops area used tree sound in
-          shown-which (after area ops) (r .grown) (r .now) (r .sound) name _ (look-none (segments name) bare (r .now) 0 (none-empty name named) h)
+          shown-which (after area ops) (r .grown) (r .now) (r .sound) name _ (look-none (segments name) bare (r .now) 0 named h)
       by (entry at serial full v) h m = absurd (rw h at m)
 
   -- the used mark has moved by the rooms of all objects that were given room, those of refused adds included
   pub run-used : headerWord (after area ops) usedField ≡ used + total (given area ops)
   run-used = let r = ran ops area used tree sound in r .sound .front .mark ∙ r .mark
 
-  -- no call after it answers damage or a bad header
+  -- no add or update by name after it answers damage or a bad header
   pub run-whole : (op : Op) → Undamaged (numberIn (call (after area ops) op))
   run-whole op = let r = ran ops area used tree sound in next (after area ops) (r .grown) (r .now) (r .sound) op .whole
 
@@ -94,7 +93,13 @@ module _ (area : List ℕ) (used : ℕ) (tree : Tree) (sound : Sound area used t
       let t : r .now ≡ now = one-tree (after area ops) grown (r .now) now (subst (λ (k : ℕ). Sound (after area ops) k (r .now)) u (r .sound)) S in
       subst (λ (x : Tree). Matches (entryOf x name) (told area name ops (asShown (shown area name)))) t (r .tells name _ (shown-matches area used tree sound name (entryOf tree name) refl))
 
-  -- listing lists exactly the names that were told a value: each of them,
+  -- listing answers how many entries there are, and writes their offsets, each once (sound's `listed-once`)
+  pub run-list : (grown : ℕ) (now : Tree) → Sound (after area ops) grown now → (scratch list : List ℕ) → scratchMin (after area ops) ≤ length scratch → length (listed now) ≤ length list
+      → (judged : Judged (after area ops)) → listSteps (after area ops) scratch list judged ≡ lists (accepted (length (listed now))) (blank scratch) (put list 0 (listed now))
+  run-list grown now S scratch list room long judged =
+      list-accepts (after area ops) scratch (S .front .header) room list now (subst (λ (u : ℕ). Sound (after area ops) u now) (sym (S .front .mark)) S) long judged
+
+  -- the names that it lists are exactly those that were told a value: each of them,
   pub run-lists : (grown : ℕ) (now : Tree) → Sound (after area ops) grown now → (name value : List ℕ) → told area name ops (asShown (shown area name)) ≡ some value
       → (at : ℕ) × (count : ℕ) × (findSteps (after area ops) name ≡ accepted (hit at count)) × Has at (listed now)
   run-lists grown now S name value e = by (entryOf now name) refl (subst (λ (t : Option (List ℕ)). Matches (entryOf now name) t) e (told-matches grown now S name))
@@ -108,18 +113,19 @@ module _ (area : List ℕ) (used : ℕ) (tree : Tree) (sound : Sound area used t
 
   -- and no other
   pub run-listed : (grown : ℕ) (now : Tree) → Sound (after area ops) grown now → (at : ℕ) → Has at (listed now)
-      → (name : List ℕ) × (value : List ℕ) × (told area name ops (asShown (shown area name)) ≡ some value)
+      → (name : List ℕ) × (value : List ℕ) × (told area name ops (asShown (shown area name)) ≡ some value) × (count : ℕ) × (findSteps (after area ops) name ≡ accepted (hit at count))
   run-listed grown now S at has =
       let h = listed-held now at has in
       let f = own-found (after area ops) grown now S (h .0) at (h .1) (h .2) (h .3) (h .4) in
       let q = found-entry (after area ops) grown now S (h .2) at (f .0) (f .1) in
-      by (h .2) (entryOf now (h .2)) (q .0) (q .1) (q .2) (told area (h .2) ops (asShown (shown area (h .2)))) refl (told-matches grown now S (h .2))
+      let t = by (h .2) (entryOf now (h .2)) (q .0) (q .1) (q .2) (told area (h .2) ops (asShown (shown area (h .2)))) refl (told-matches grown now S (h .2)) in
+      (h .2, t .0, t .1, f .0, f .1)
     where
       by : (name : List ℕ) (own : Entry) (serial : ℕ) (v : Value) → own ≡ entry at serial name v → (t : Option (List ℕ)) → told area name ops (asShown (shown area name)) ≡ t → Matches own t
-          → (n : List ℕ) × (value : List ℕ) × (told area n ops (asShown (shown area n)) ≡ some value)
+          → (value : List ℕ) × (told area name ops (asShown (shown area name)) ≡ some value)
       by name bare serial v h t e m = absurd (let z : _≡_ {A = ℕ} 0 1 = cc in omega arith)
       by name (entry far s full w) serial v h none e m = absurd m
-      by name (entry far s full w) serial v h (some value) e m = (name, value, e)
+      by name (entry far s full w) serial v h (some value) e m = (value, e)
 
   -- k accepted updates of a name, k < 32,768, give update distance k between the serials read before and after
   pub run-distance : (name : List ℕ) (at count : ℕ) → findSteps area name ≡ accepted (hit at count) → length (updateSizes area name ops) < positions

@@ -6,20 +6,17 @@ use mathlib.Core.Logic.{_⊎_, inl, inr}
 use mathlib.Core.Bool.{cond}
 use mathlib.Core.List.{List, [], _∷_, _++_}
 use mathlib.Core.Option.{Option, none, some}
+use Rattle.builder.proofs.Used.{total-append}
+use Rattle.builder.specs.Steps.{total}
 use Rattle.layout.specs.declared.refusal.Refusal.{Refusal}
 use Rattle.layout.specs.Refusals.{accepted, refuse}
 use Rattle.counters.specs.Distance.{serialAfter}
-use Rattle.builder.proofs.Used.{total}
 use Rattle.sound.specs.Tree.{Entry, bare, entry, Tree}
 use Rattle.sound.specs.Sound.{Sound}
 use Rattle.history.specs.History.{Op, call, bytesIn, after, shown, hear, heeded, told, asShown, Shows, sizeIn, updateSizes, opRooms, given}
 use Rattle.history.specs.Lack.{entryOf}
 use Rattle.history.proofs.Showing.{shown-some, shown-none}
 use Rattle.history.proofs.Next.{Matches, Lasts, next}
-
-total-append : (a b : List ℕ) → total (a ++ b) ≡ total a + total b
-total-append [] b = omega arith
-total-append (r ∷ a) b = omega (arith, total-append a b)
 
 after-sizes : (a b : List ℕ) (serial : ℕ) → serialAfter serial (a ++ b) ≡ serialAfter (serialAfter serial a) b
 unfolding serialAfter

@@ -4,24 +4,20 @@ use native.Mathlib.Nat.{add-zero, add-assoc}
 use native.Mathlib.Omega.{arith}
 use mathlib.Core.Path.{_≡_, refl, ap, _∙_}
 use mathlib.Core.Bool.{true, false}
-use mathlib.Core.List.{List, [], _∷_, _++_}
+use mathlib.Core.List.{List, [], _∷_}
 use lib.Dec.{eqb}
 use lib.ListN.{length}
-use borrow.Author.Tests.{eqb-true}
 use Rattle.words.proofs.Laws.{bool-cases}
-use Rattle.names.specs.Names.{dot, segmentOrder}
+use Rattle.names.specs.Names.{segmentOrder}
 use Rattle.names.specs.declared.Order.{Order}
 use Rattle.names.specs.declared.Order.the-variants.{Less, Equal, Greater}
-use Rattle.names.proofs.Promises.{order-equal}
 use Rattle.layout.specs.declared.refusal.Refusal.{Refusal}
 use Rattle.layout.specs.Refusals.{accepted, refuse}
 use Rattle.property_area.specs.Find.{hit}
 use Rattle.builder.specs.Add.{anyEmpty}
 use Rattle.sound.specs.Tree.{Value, Entry, bare, entry, Tree, leaf, node}
-use Rattle.sound.specs.Sound.{TreeRule}
 use Rattle.sound.specs.Ways.{toLeft, toRight, toward, reached}
-use Rattle.lookup.specs.Look.{turn, spot, compares, ownAnswer, byNode, look}
-use Rattle.lookup.proofs.Costs.{costs}
+use Rattle.lookup.specs.Look.{turn, spot, compares, ownAnswer, byNode, look, costs}
 use Rattle.history.specs.Lack.{seek}
 
 -- one node of the search
@@ -87,21 +83,3 @@ seek-found (segment ∷ rest) own below compared at count e =
     by (node place name next left under right) e on = on next under (compared + compares segment below) at count e
 
 -- ---- some segment is empty: no node has that name
-pub seek-empty : (below : Tree) (prefix : List ℕ) (segs : List (List ℕ)) (own : Entry) → TreeRule prefix below → anyEmpty segs ≡ true → seek segs own below ≡ bare
-unfolding TreeRule anyEmpty
-seek-empty below prefix [] own rule some = absurd (let q : _≡_ {A = ℕ} 0 1 = cc in omega arith)
-seek-empty leaf prefix (segment ∷ rest) own rule some = unfold seek spot reached in refl
-seek-empty (node at name next left under right) prefix (segment ∷ rest) own rule some =
-    seek-node segment rest own at name next left under right
-    ∙ by (segmentOrder segment name) refl (seek-empty under (prefix ++ name ++ dot ∷ []) rest next (rule .5))
-    (seek-empty left prefix (segment ∷ rest) own (rule .4) some) (seek-empty right prefix (segment ∷ rest) own (rule .6) some)
-  where
-    by : (order : Order) → segmentOrder segment name ≡ order → (anyEmpty rest ≡ true → seek rest next under ≡ bare)
-        → seek (segment ∷ rest) own left ≡ bare → seek (segment ∷ rest) own right ≡ bare
-        → turn order (seek rest next under) (seek (segment ∷ rest) own left) (seek (segment ∷ rest) own right) ≡ bare
-    by Less is on l r = l
-    by Greater is on l r = r
-    by Equal is on l r =
-        bool-cases (eqb (length segment) 0)
-        (λ t. absurd (omega (arith, eqb-true (length segment) 0 t, ap length (order-equal segment name is), rule .0 .some)))
-        (λ t. on (rw t at some))

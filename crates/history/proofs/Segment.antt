@@ -13,9 +13,8 @@ use Rattle.names.specs.declared.Order.the-variants.{Less, Equal, Greater}
 use Rattle.names.proofs.Promises.{order-self}
 use Rattle.layout.specs.Layout.{wordSize, leftField, rightField, childrenField, dataSize, byteOf, placeOf, wordAt, nodeTakes}
 use Rattle.property_area.specs.Trie.{nodesMax, segmentSteps}
-use Rattle.builder.specs.Steps.{goes, stops, andThen}
+use Rattle.builder.specs.Steps.{goes, stops, andThen, total}
 use Rattle.builder.specs.Nodes.{hangNode, orHang, addNode, addSegment}
-use Rattle.builder.proofs.Used.{total}
 use Rattle.sound.specs.Tree.{Entry, bare, Tree, leaf, node, link}
 use Rattle.sound.specs.Sound.{Sound}
 use Rattle.sound.specs.Ways.{Dir, toLeft, toBelow, toRight, toward, reached}

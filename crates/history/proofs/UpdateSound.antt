@@ -3,14 +3,13 @@ use Prim.Native.Nat.{ℕ, _+_, _/_, _%_, _≤_, _<_}
 use native.Mathlib.Omega.{arith}
 use native.Mathlib.Decide.{decLt}
 use mathlib.Core.Path.{_≡_, refl}
-use mathlib.Core.Logic.{_≢_, inl, inr}
 use mathlib.Core.List.{List, [], _++_}
 use lib.ListN.{length}
 use borrow.Author.Tests.{eq-eqb}
 use Rattle.words.specs.Stores.{run}
 use Rattle.layout.specs.declared.refusal.Refusal.{Refusal}
 use Rattle.layout.specs.Layout.{entrySize, serialField, slotSize, longBit, firstFree, byteOf, placeOf, entryTakes}
-use Rattle.layout.specs.Refusals.{Answer, accepted, refused, numberOf, Outcome, leaves, acceptLeaving, refuseLeaving}
+use Rattle.layout.specs.Refusals.{Answer, accepted, refused, Outcome, leaves, acceptLeaving, refuseLeaving}
 use Rattle.property_info.specs.Serial.{updatedSerial}
 use Rattle.property_info.specs.Entry.{isLong}
 use Rattle.property_area.specs.Find.{Hit, hit, findSteps}
@@ -24,9 +23,8 @@ use Rattle.growth.proofs.Rules.{prefixAt, rule-there}
 use Rattle.growth.proofs.SoundPut.{sound-slot}
 use Rattle.lookup.proofs.NodeReads.{Standing, entry-lies, own-room}
 use Rattle.lookup.proofs.Spelling.{ownOf}
-use Rattle.lookup.proofs.Promises.{find-refusals, found-own}
-use Rattle.history.specs.Lack.{missing}
-use Rattle.history.specs.History.{numberIn, upToZero}
+use Rattle.lookup.proofs.Promises.{found-own}
+use Rattle.history.specs.History.{upToZero}
 use Rattle.history.proofs.Updated.{ShortUpdated, is-short, update-tests, updated}
 use Rattle.history.proofs.EntryHung.{node-stands}
 
@@ -146,18 +144,4 @@ module _ (area : List ℕ) (used : ℕ) (tree : Tree) (sound : Sound area used t
       by (accepted (hit far count)) e =
           let found = found-own area used tree sound name far count e in
           entry-done far (found .1) (found .2) (own-stands tree (found .0) far (found .1) name (found .2) (sound .rule) (found .3))
-
-  -- ---- so no answer tells of damage
-  pub update-undamaged : (numberIn (updateSteps area name value) ≢ numberOf Refusal.Damaged) × (numberIn (updateSteps area name value) ≢ numberOf Refusal.BadHeader)
-  update-undamaged = by (updateSteps area name value) update-sound
-    where
-      by : (outcome : Outcome) → UpdateDone area used tree name value outcome
-          → (numberIn outcome ≢ numberOf Refusal.Damaged) × (numberIn outcome ≢ numberOf Refusal.BadHeader)
-      by outcome (unfound number e is) =
-          elim (find-refusals area used tree sound name number e) [
-            | inl missing ↦ rw is (λ q. omega arith, λ q. omega arith)
-            | inr empty ↦ rw is (λ q. omega arith, λ q. omega arith)
-          ]
-      by outcome (longEntry far serial place text here is) = rw is (λ q. omega arith, λ q. omega arith)
-      by outcome (tooLong far serial slot here many is) = rw is (λ q. omega arith, λ q. omega arith)
-      by outcome (done far serial slot b fresh here few is sound shows) = rw is (λ q. omega arith, λ q. omega arith)
+      -- ---- so no answer tells of damage

@@ -4,11 +4,11 @@ use mathlib.Core.Bool.{cond}
 use mathlib.Core.List.{List, [], _∷_}
 use lib.ListN.{length}
 use lib.Dec.{ltb}
+use Rattle.builder.specs.Steps.{total}
 use Rattle.names.specs.Names.{segments}
 use Rattle.layout.specs.declared.refusal.Refusal.{Refusal}
 use Rattle.layout.specs.Layout.{wordMax, slotSize, nodeTakes, entryTakes, valueTakes}
 use Rattle.layout.specs.Refusals.{numberOf}
-use Rattle.builder.proofs.Used.{total}
 use Rattle.sound.specs.Tree.{Entry, bare, entry, Tree, leaf}
 use Rattle.sound.specs.Ways.{reached}
 use Rattle.lookup.specs.Look.{spot, byNode}

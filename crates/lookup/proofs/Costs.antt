@@ -3,7 +3,6 @@ use Prim.Native.Nat.{ℕ, _+_, _≤_}
 use native.Mathlib.Omega.{arith}
 use mathlib.Core.Path.{_≡_, refl}
 use mathlib.Core.Logic.{_⊎_, inl, inr}
-use mathlib.Core.Bool.{cond}
 use mathlib.Core.List.{List, [], _∷_}
 use lib.Dec.{eqb}
 use lib.ListN.{length}
@@ -13,14 +12,8 @@ use Rattle.layout.specs.Refusals.{Answer, accepted, refused, refuse, numberOf}
 use Rattle.property_area.specs.Find.{Hit, hit}
 use Rattle.sound.specs.Tree.{Entry, bare, entry, Tree, leaf, node}
 use Rattle.sound.specs.Ways.{toBelow, toward, reached, nodes}
-use Rattle.lookup.specs.Look.{spot, compares, ownAnswer, byNode, look}
+use Rattle.lookup.specs.Look.{spot, compares, ownAnswer, byNode, look, costs}
 use Rattle.lookup.proofs.Searching.{compares-few}
-
--- the nodes compared for some segments, found or not
-unfoldable pub costs : List (List ℕ) → Tree → ℕ
-costs [] below = 0
-costs (segment ∷ rest) below =
-    cond (eqb (length segment) 0) 0 (compares segment below + byNode (reached below (spot segment below)) 0 (λ next under. costs rest under))
 
 pub costs-few : (segs : List (List ℕ)) (below : Tree) → costs segs below ≤ nodes below
 unfolding costs

@@ -20,13 +20,13 @@ use Rattle.sound.specs.Tree.{Value, bare, entry, Tree, leaf, node, listedOwn, l
 use Rattle.sound.specs.Sound.{Has, Sound}
 use Rattle.sound.specs.Ways.{Dir, toLeft, toBelow, toRight, toward, reached, nodes}
 use Rattle.sound.proofs.Counting.{nodes-few}
-use Rattle.lookup.specs.Look.{look}
+use Rattle.lookup.specs.Look.{look, costs, shows}
 use Rattle.lookup.proofs.NodeReads.{stands-whole}
 use Rattle.lookup.proofs.FindLook.{stands-reached, find-look}
 use Rattle.lookup.proofs.Spelling.{ownOf, one-name, spells}
 use Rattle.lookup.proofs.LookWays.{look-names, found-leads}
-use Rattle.lookup.proofs.Costs.{costs, costs-few, Counts, look-counts}
-use Rattle.lookup.proofs.ValueReads.{shows, own-reads}
+use Rattle.lookup.proofs.Costs.{costs-few, Counts, look-counts}
+use Rattle.lookup.proofs.ValueReads.{own-reads}
 
 -- ---- a lookup compares at most all nodes of the tree; it answers a hit with their count, or 3, or 2
 look-counted : (segs : List (List ℕ)) (tree : Tree) → Counts (costs segs tree) (look segs bare tree 0)

@@ -9,6 +9,7 @@ use lib.Dec.{eqb}
 use lib.ListN.{length, getD, take}
 use lib.Seq.{getD-take, length-take-le}
 use borrow.Author.Tests.{eq-eqb, ne-eqb}
+use Rattle.lookup.specs.Look.{shows}
 use Rattle.words.specs.Words.{firstIn, part}
 use Rattle.words.proofs.Laws.{bool-cases, first-high}
 use Rattle.layout.specs.declared.text.Span.{Span}
@@ -20,11 +21,6 @@ use Rattle.sound.specs.Sound.{Holds, HoldsText, ValueAt, EntryAt, TreeAt, Witho
 use Rattle.sound.proofs.Holding.{text-bytes}
 use Rattle.lookup.proofs.NodeReads.{part-holds, text-reads, Standing, InRoom, between, path-whole, own-room, entry-lies, own-touched}
 use Rattle.lookup.proofs.Spelling.{ownOf}
-
--- what a value shows: a short one its slot up to the first zero, a long one its text
-unfoldable pub shows : Value → List ℕ
-shows (short slot) = take (firstIn 0 slot 0 (length slot)) slot
-shows (long far text) = text
 
 -- the scan over bytes that stand in an area is the scan over these bytes
 first-shift : (k : ℕ) (area : List ℕ) (from : ℕ) (bs : List ℕ) (i : ℕ) → Holds area from bs → i + k ≤ length bs

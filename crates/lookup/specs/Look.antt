@@ -2,7 +2,8 @@
 use Prim.Native.Nat.{ℕ, _+_}
 use mathlib.Core.Bool.{cond}
 use mathlib.Core.List.{List, [], _∷_}
-use lib.ListN.{length}
+use lib.ListN.{length, take}
+use Rattle.words.specs.Words.{firstIn}
 use lib.Dec.{eqb}
 use Rattle.names.specs.Names.{segmentOrder}
 use Rattle.names.specs.declared.Order.{Order}
@@ -10,7 +11,7 @@ use Rattle.names.specs.declared.Order.the-variants.{Less, Equal, Greater}
 use Rattle.layout.specs.declared.refusal.Refusal.{Refusal}
 use Rattle.layout.specs.Refusals.{Answer, accepted, refuse}
 use Rattle.property_area.specs.Find.{Hit, hit}
-use Rattle.sound.specs.Tree.{Entry, bare, entry, Tree, leaf, node}
+use Rattle.sound.specs.Tree.{Value, short, long, Entry, bare, entry, Tree, leaf, node}
 use Rattle.sound.specs.Ways.{Dir, toLeft, toRight, reached}
 
 -- equal ends it, less goes left, greater right
@@ -46,3 +47,14 @@ look (segment ∷ rest) own below compared =
     cond (eqb (length segment) 0)
     (refuse Refusal.EmptySegment)
     (byNode (reached below (spot segment below)) (refuse Refusal.Missing) (λ next under. look rest next under (compared + compares segment below)))
+
+-- the nodes compared for some segments, found or not
+unfoldable pub costs : List (List ℕ) → Tree → ℕ
+costs [] below = 0
+costs (segment ∷ rest) below =
+    cond (eqb (length segment) 0) 0 (compares segment below + byNode (reached below (spot segment below)) 0 (λ next under. costs rest under))
+
+-- what a value shows: a short one its slot up to the first zero, a long one its text
+unfoldable pub shows : Value → List ℕ
+shows (short slot) = take (firstIn 0 slot 0 (length slot)) slot
+shows (long far text) = text

@@ -1,63 +1,19 @@
--- The objects of a tree, each with its extent, as a list: what counts of bytes say about them, and back.
-use Prim.Native.Nat.{ℕ, _+_, _-_, _%_, _≤_, _<_}
+-- What counts of bytes say about the objects of a tree, and back.
+use Prim.Native.Nat.{ℕ, _+_, _-_, _≤_}
 use native.Mathlib.Omega.{arith}
 use mathlib.Core.Path.{_≡_, refl}
 use mathlib.Core.Logic.{inl, inr}
 use mathlib.Core.List.{List, [], _∷_, _++_}
+use lib.Dec.{eqb}
 use lib.ListN.{length}
-use Rattle.words.specs.Words.{roundUp4}
+use borrow.Author.Tests.{eqb-true}
+use Rattle.words.proofs.Laws.{bool-cases}
 use Rattle.names.specs.Names.{dot}
-use Rattle.layout.specs.Layout.{wordSize, nodeSize, entrySize, firstFree, byteOf}
-use Rattle.sound.specs.Tree.{Value, short, long, Entry, bare, entry, Tree, leaf, node, inside, valueCover, entryCover, cover}
+use Rattle.layout.specs.Layout.{entryTakes, firstFree, byteOf}
+use Rattle.sound.specs.Tree.{Value, short, long, Entry, bare, entry, Tree, leaf, node, listedOwn, listed, inside, valueCover, entryCover, cover}
 use Rattle.sound.specs.Sound.{ValueRule, EntryRule, TreeRule}
+use Rattle.sound.specs.Objects.{Object, takes, valueObjects, entryObjects, objects, Each, Takes, ShareNone, Apart, Between, Aligned, times}
 use Rattle.sound.proofs.Inside.{inside-yes, inside-cases, inside-between}
-
--- an object: its offset, and how many bytes stand before its zero
-pub record Object : Type 0 where
-  pub at : ℕ
-  pub bytes : ℕ
-
--- with its zero, padded
-abbrev pub takes : Object → ℕ
-takes x = roundUp4 (x .bytes + 1)
-
-abbrev pub object : ℕ → ℕ → Object
-object at bytes = record { at = at; bytes = bytes }
-
-abbrev pub valueObjects : Value → List Object
-valueObjects (short slot) = []
-valueObjects (long at text) = object at (length text) ∷ []
-
-abbrev pub entryObjects : Entry → List Object
-entryObjects bare = []
-entryObjects (entry at serial name value) = object at (entrySize + length name) ∷ valueObjects value
-
-abbrev pub objects : Tree → List Object
-objects leaf = []
-objects (node at name own left below right) =
-    object at (nodeSize + length name) ∷ (entryObjects own ++ (objects left ++ (objects below ++ objects right)))
-
-abbrev pub Each : (Object → Type 0) → List Object → Type 0
-Each P [] = Unit {0}
-Each P (x ∷ xs) = P x × Each P xs
-
--- a byte of the area is the object's
-abbrev pub Takes : Object → ℕ → Type 0
-Takes x i = (byteOf (x .at) ≤ i) × (i < byteOf (x .at) + takes x)
-
-abbrev pub ShareNone : Object → Object → Type 0
-ShareNone x y = (i : ℕ) → Takes x i → Takes y i → ⊥
-
--- no two share a byte
-abbrev pub Apart : List Object → Type 0
-Apart [] = Unit {0}
-Apart (x ∷ xs) = Each (ShareNone x) xs × Apart xs
-
-abbrev pub Between : ℕ → Object → Type 0
-Between used x = (firstFree ≤ x .at) × (x .at + takes x ≤ used)
-
-abbrev pub Aligned : Object → Type 0
-Aligned x = x .at % wordSize ≡ 0
 
 -- ---- the count over the list is the count over the tree
 abbrev taken : Object → ℕ → ℕ
@@ -170,3 +126,32 @@ tree-aligned prefix (node at name own left below right) rule = (
       (each-append Aligned (objects left) (objects below ++ objects right) (tree-aligned prefix left (rule .4))
       (each-append Aligned (objects below) (objects right) (tree-aligned (prefix ++ name ++ dot ∷ []) below (rule .5)) (tree-aligned prefix right (rule .6)))),
 )
+
+-- ---- an offset stands in the list as often as its first byte is counted, at most
+times-append : (at : ℕ) (x y : List ℕ) → times at (x ++ y) ≡ times at x + times at y
+unfolding times
+times-append at [] y = omega arith
+times-append at (b ∷ x) y = omega (arith, times-append at x y)
+
+own-times : (own : Entry) (at : ℕ) → times at (listedOwn own) ≤ entryCover own (byteOf at)
+unfolding times listedOwn entryCover
+own-times bare at = omega arith
+own-times (entry far serial name value) at =
+    bool-cases (eqb far at)
+    (λ t. rw t (omega (arith, eqb-true far at t, inside-yes (byteOf far) (entryTakes (length name)) (byteOf at) (omega (arith, eqb-true far at t)) (omega (arith, eqb-true far at t)))))
+    (λ t. rw t (omega arith))
+
+pub listed-times : (tree : Tree) (at : ℕ) → times at (listed tree) ≤ cover tree (byteOf at)
+unfolding times listed cover
+listed-times leaf at = omega arith
+listed-times (node place name own left below right) at =
+    omega (
+      arith,
+      times-append at (listed left ++ listedOwn own ++ listed below) (listed right),
+      times-append at (listed left ++ listedOwn own) (listed below),
+      times-append at (listed left) (listedOwn own),
+      own-times own at,
+      listed-times left at,
+      listed-times below at,
+      listed-times right at,
+    )

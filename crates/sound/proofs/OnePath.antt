@@ -7,13 +7,8 @@ use mathlib.Core.List.{List, [], _∷_}
 use lib.ListN.{length}
 use Rattle.layout.specs.Layout.{byteOf, nodeTakes}
 use Rattle.sound.specs.Tree.{Tree, leaf, node, inside, cover}
-use Rattle.sound.specs.Ways.{Dir, toLeft, toBelow, toRight, toward, reached}
+use Rattle.sound.specs.Ways.{Dir, toLeft, toBelow, toRight, toward, reached, TopAt}
 use Rattle.sound.proofs.Inside.{inside-yes}
-
--- a tree whose top node stands at an offset
-abbrev pub TopAt : Tree → ℕ → Type 0
-TopAt leaf at = ⊥
-TopAt (node place name own left below right) at = place ≡ at
 
 top-cover : (tree : Tree) (at : ℕ) → TopAt tree at → 1 ≤ cover tree (byteOf at)
 unfolding cover

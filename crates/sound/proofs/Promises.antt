@@ -4,12 +4,13 @@ use native.Mathlib.Omega.{arith}
 use mathlib.Core.Path.{_≡_, refl, sym, _∙_}
 use mathlib.Core.List.{List, []}
 use Rattle.layout.specs.Layout.{firstFree, byteOf}
-use Rattle.sound.specs.Tree.{Tree, cover}
+use Rattle.sound.specs.Tree.{Tree, listed, cover}
 use Rattle.sound.specs.Sound.{Room, Sound}
-use Rattle.sound.specs.Ways.{Dir, reached}
+use Rattle.sound.specs.Ways.{Dir, reached, TopAt}
+use Rattle.sound.specs.Objects.{objects, Each, Apart, Between, Aligned, times}
 use Rattle.sound.proofs.Inside.{inside-most, inside-low}
-use Rattle.sound.proofs.Objects.{objects, Each, Apart, Between, Aligned, tree-covers, apart-of, between-of, room-of, tree-aligned}
-use Rattle.sound.proofs.OnePath.{TopAt, one-way}
+use Rattle.sound.proofs.Objects.{listed-times, tree-covers, apart-of, between-of, room-of, tree-aligned}
+use Rattle.sound.proofs.OnePath.{one-way}
 use Rattle.sound.proofs.OneTree.{Behind, one-below}
 
 once : (used : ℕ) (tree : Tree) → Room used tree → (i : ℕ) → cover tree i ≤ 1
@@ -46,3 +47,7 @@ module _ (area : List ℕ) (used : ℕ) where
 -- ---- and has one used mark
 pub one-mark : (area : List ℕ) (used other : ℕ) (s t : Tree) → Sound area used s → Sound area other t → used ≡ other
 one-mark area used other s t x y = sym (x .front .mark) ∙ y .front .mark
+
+-- ---- no entry is listed twice
+pub listed-once : (area : List ℕ) (used : ℕ) (tree : Tree) → Sound area used tree → (at : ℕ) → times at (listed tree) ≤ 1
+listed-once area used tree sound at = omega (arith, listed-times tree at, once used tree (sound .room) (byteOf at))

@@ -1,3 +1,4 @@
 pub mod Tree
 pub mod Sound
 pub mod Ways
+pub mod Objects

@@ -1,5 +1,6 @@
 -- Ways down a tree: where a run of directions leads.
 use Prim.Native.Nat.{ℕ, _+_}
+use mathlib.Core.Path.{_≡_}
 use mathlib.Core.List.{List, [], _∷_}
 use Rattle.sound.specs.Tree.{Tree, leaf, node}
 
@@ -16,6 +17,11 @@ toward toRight (node at name own left below right) = right
 unfoldable pub reached : Tree → List Dir → Tree
 reached tree [] = tree
 reached tree (dir ∷ way) = reached (toward dir tree) way
+
+-- a tree whose top node stands at an offset
+abbrev pub TopAt : Tree → ℕ → Type 0
+TopAt leaf at = ⊥
+TopAt (node place name own left below right) at = place ≡ at
 
 -- how many nodes there are
 unfoldable pub nodes : Tree → ℕ
