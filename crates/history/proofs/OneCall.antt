@@ -1,10 +1,15 @@
 -- One add or update over any sound area: when it is accepted, and with which number it is refused.
 use Prim.Native.Nat.{ℕ, _+_, _≤_, _<_}
 use native.Mathlib.Omega.{arith}
-use mathlib.Core.Path.{_≡_, sym, ap, _∙_}
-use mathlib.Core.Logic.{_⊎_}
+use mathlib.Core.Path.{_≡_, refl, sym, ap, _∙_}
+use mathlib.Core.Logic.{_≢_, _⊎_}
+use mathlib.Core.Bool.{false}
 use mathlib.Core.List.{List}
+use lib.Dec.{eqb}
 use lib.ListN.{length}
+use Rattle.words.specs.Words.{sameBytes}
+use Rattle.words.proofs.Laws.{bool-cases}
+use Rattle.words.proofs.Promises.{same-eq}
 use Rattle.names.specs.Names.{segments}
 use Rattle.layout.specs.declared.refusal.Refusal.{Refusal}
 use Rattle.layout.specs.declared.refusal.Verdict.{Verdict}
@@ -16,13 +21,15 @@ use Rattle.builder.specs.Add.{nameVerdict, addSteps}
 use Rattle.updates.specs.Update.{updateSteps}
 use Rattle.sound.specs.Tree.{Value, short, long, bare, entry, Tree}
 use Rattle.sound.specs.Sound.{Sound}
-use Rattle.history.specs.History.{add, update, call, numberIn, roomsIn, opRooms}
+use Rattle.history.specs.History.{Op, add, update, call, numberIn, bytesIn, shown, opName, heeded, asShown, Shows, roomsIn, opRooms}
 use Rattle.history.specs.Lack.{seek, entryOf, lacks}
 use Rattle.history.proofs.Rooms.{which-number}
 use Rattle.history.proofs.Leading.{finds-own}
 use Rattle.history.proofs.AddSound.{AddDone, badName, noRoom, stays, adds, add-sound}
 use Rattle.history.proofs.UpdateSound.{Stands, UpdateDone, unfound, longEntry, tooLong, done, update-sound}
 use Rattle.history.proofs.Entries.{entry-found}
+use Rattle.history.proofs.Next.{next}
+use Rattle.history.proofs.Run.{matched-shows, shown-matches}
 
 module _ (area : List ℕ) (used : ℕ) (tree : Tree) (sound : Sound area used tree) (name value : List ℕ) where
   -- an add whose name is neither 1 nor 2 is accepted if used plus all missing padded sizes is at most data size
@@ -73,3 +80,17 @@ module _ (area : List ℕ) (used : ℕ) (tree : Tree) (sound : Sound area used t
           absurd (let q : entry at serial name (short slot) ≡ entry far s name (long place text) = sym has ∙ stands far s (long place text) here in let z : _≡_ {A = ℕ} 0 1 = cc in omega arith)
       by (tooLong far s other here over is) = absurd (omega (arith, over, few))
       by (done far s other b fresh here less is S e) = ap numberIn is
+
+-- a call changes what its own name shows, and no other's
+pub others-kept : (area : List ℕ) (used : ℕ) (tree : Tree) → Sound area used tree → (op : Op) (other : List ℕ) → other ≢ opName op
+    → Shows (shown (bytesIn (call area op)) other) (asShown (shown area other))
+others-kept area used tree sound op other differs =
+    let n = next area used tree sound op in
+    let t = n .tells other (asShown (shown area other)) (shown-matches area used tree sound other (entryOf tree other) refl) in
+    matched-shows (bytesIn (call area op)) (n .grown) (n .now) (n .sound) other (entryOf (n .now) other) (asShown (shown area other)) refl (rw unheeded at t)
+  where
+    apart : sameBytes (opName op) other ≡ false
+    apart = bool-cases (sameBytes (opName op) other) (λ t. absurd (differs (sym (same-eq (opName op) other t)))) (λ f. f)
+
+    unheeded : heeded area other op ≡ false
+    unheeded = bool-cases (eqb (numberIn (call area op)) noRefusal) (λ t. rw (t, apart)) (λ f. rw f)

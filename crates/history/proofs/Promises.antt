@@ -1,8 +1,9 @@
 -- Demand 3. From any sound area on, and so from a fresh one: after any run of adds and updates by name, refused ones included.
 use Prim.Native.Nat.{ℕ, _+_, _-_, _/_, _≤_, _<_}
 use native.Mathlib.Omega.{arith}
-use mathlib.Core.Path.{_≡_, refl, sym, subst, _∙_}
+use mathlib.Core.Path.{_≡_, refl, sym, ap, subst, _∙_}
 use mathlib.Core.Bool.{false}
+use mathlib.Core.Logic.{_⊎_, inl, inr}
 use mathlib.Core.List.{List, [], _∷_}
 use mathlib.Core.Option.{Option, none, some}
 use lib.ListN.{length}
@@ -10,7 +11,7 @@ use Rattle.words.specs.Words.{put}
 use Rattle.builder.specs.Steps.{total}
 use Rattle.names.specs.Names.{segments}
 use Rattle.layout.specs.declared.refusal.Refusal.{Refusal}
-use Rattle.layout.specs.Layout.{areaMax, serialField, firstFree, formatMin, wordAt, headerWord, usedField}
+use Rattle.layout.specs.Layout.{areaMax, rootAt, serialField, firstFree, formatMin, wordAt, headerWord, usedField}
 use Rattle.layout.specs.Refusals.{accepted, refused, refuse, acceptLeaving}
 use Rattle.property_area.specs.Find.{hit, findSteps}
 use Rattle.counters.specs.Distance.{positions, distance, serialAfter}
@@ -21,8 +22,8 @@ use Rattle.sound.specs.Tree.{Value, Entry, bare, entry, Tree, leaf, listed}
 use Rattle.sound.specs.Sound.{Has, Sound}
 use Rattle.sound.specs.Ways.{reached}
 use Rattle.sound.proofs.Promises.{one-tree, one-mark}
-use Rattle.lookup.specs.Look.{spot, look, costs}
-use Rattle.lookup.proofs.Promises.{find-cost, costs-bound, own-found}
+use Rattle.lookup.specs.Look.{walkCost, spot, look}
+use Rattle.lookup.proofs.Promises.{find-cost, walk-bound, own-found}
 use Rattle.audit.specs.Check.{Judged, blank, scratchMin, checkSteps, lists, listSteps}
 use Rattle.audit.proofs.Promises.{check-accepts, list-accepts}
 use Rattle.history.specs.History.{Op, call, numberIn, after, shown, told, asShown, Shows, updateSizes, given}
@@ -30,7 +31,7 @@ use Rattle.history.specs.Lack.{seek, entryOf}
 use Rattle.history.proofs.FreshSound.{fresh-sound}
 use Rattle.history.proofs.Entries.{serial-read, entry-found, entry-listed, found-entry, listed-held}
 use Rattle.history.proofs.Seeking.{look-none}
-use Rattle.history.proofs.Showing.{shown-which}
+use Rattle.history.proofs.Showing.{shown-none, shown-which}
 use Rattle.history.proofs.Next.{Undamaged, Matches, next}
 use Rattle.history.proofs.Run.{ran, matched-shows, shown-matches}
 
@@ -75,9 +76,11 @@ module _ (area : List ℕ) (used : ℕ) (tree : Tree) (sound : Sound area used t
       let r = ran ops area used tree sound in
       omega (arith, find-cost (after area ops) (r .grown) (r .now) (r .sound) name at count f, r .sound .front .mark)
 
-  -- and refused, by the count of its search in the tree
-  pub run-costs : (now : Tree) (grown : ℕ) → Sound (after area ops) grown now → (name : List ℕ) → costs (segments name) now ≤ (headerWord (after area ops) usedField - firstFree) / 24
-  run-costs now grown S name = omega (arith, costs-bound (after area ops) grown now S (segments name), S .front .mark)
+  -- and whatever it answers, by the nodes that it compares over the bytes
+  pub run-costs : (name : List ℕ) → walkCost (after area ops) (segments name) rootAt ≤ (headerWord (after area ops) usedField - firstFree) / 24
+  run-costs name =
+      let r = ran ops area used tree sound in
+      omega (arith, walk-bound (after area ops) (r .grown) (r .now) (r .sound) name, r .sound .front .mark)
 
   -- check accepts it
   pub run-checks : (scratch : List ℕ) → scratchMin (after area ops) ≤ length scratch → (judged : Judged (after area ops)) → checkSteps (after area ops) scratch judged ≡ acceptLeaving (blank scratch)
@@ -140,13 +143,13 @@ module _ (area : List ℕ) (used : ℕ) (tree : Tree) (sound : Sound area used t
       rw (a, b) (distance-counts (updateSizes area name ops) (q .0) few)
 
 -- an empty tree has no entries
-leaf-none : (name : List ℕ) → Matches (entryOf leaf name) none
+leaf-bare : (name : List ℕ) → entryOf leaf name ≡ bare
 unfolding seek spot reached
-leaf-none name = by (segments name)
+leaf-bare name = by (segments name)
   where
-    by : (segs : List (List ℕ)) → Matches (seek segs bare leaf) none
-    by [] = tt
-    by (segment ∷ rest) = tt
+    by : (segs : List (List ℕ)) → seek segs bare leaf ≡ bare
+    by [] = refl
+    by (segment ∷ rest) = refl
 
 -- ---- demand 3: from a fresh area
 module _ (n : ℕ) (low : formatMin ≤ n) (high : n ≤ areaMax) (ops : List Op) where
@@ -159,9 +162,14 @@ module _ (n : ℕ) (low : formatMin ≤ n) (high : n ≤ areaMax) (ops : List Op
   pub fresh-run-whole : (op : Op) → Undamaged (numberIn (call (after (fresh n) ops) op))
   fresh-run-whole = run-whole (fresh n) firstFree leaf (fresh-sound n low high) ops
 
+  -- a fresh area shows nothing: with this, each run-.. law says of a fresh area what its comment says
+  pub fresh-untold : (name : List ℕ) → asShown (shown (fresh n) name) ≡ none
+  fresh-untold name = by (shown-none (fresh n) firstFree leaf (fresh-sound n low high) name (leaf-bare name))
+    where
+      by : (shown (fresh n) name ≡ refuse Refusal.Missing) ⊎ (shown (fresh n) name ≡ refuse Refusal.EmptySegment) → asShown (shown (fresh n) name) ≡ none
+      by (inl e) = ap asShown e
+      by (inr e) = ap asShown e
+
   -- a lookup shows the last accepted update, or else the first accepted add; any other name is refused as missing or malformed
   pub fresh-run-shows : (name : List ℕ) → Shows (shown (after (fresh n) ops) name) (told (fresh n) name ops none)
-  fresh-run-shows name =
-      let S = fresh-sound n low high in
-      let r = ran ops (fresh n) firstFree leaf S in
-      matched-shows (after (fresh n) ops) (r .grown) (r .now) (r .sound) name (entryOf (r .now) name) _ refl (r .tells name none (leaf-none name))
+  fresh-run-shows name = subst (λ (t : Option (List ℕ)). Shows (shown (after (fresh n) ops) name) (told (fresh n) name ops t)) (fresh-untold name) (run-shows (fresh n) firstFree leaf (fresh-sound n low high) ops name)

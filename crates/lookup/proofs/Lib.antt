@@ -5,4 +5,5 @@ pub mod Spelling
 pub mod LookWays
 pub mod Costs
 pub mod ValueReads
+pub mod WalkCost
 pub mod Promises

@@ -10,7 +10,7 @@ use lib.ListN.{length, length-append, List·getD-append}
 use lib.Seq.{getD-append-add}
 use Rattle.names.specs.Names.{segments}
 use Rattle.layout.specs.declared.refusal.Refusal.{Refusal}
-use Rattle.layout.specs.Layout.{firstFree}
+use Rattle.layout.specs.Layout.{rootAt, firstFree}
 use Rattle.layout.specs.Refusals.{accepted, refused, numberOf}
 use Rattle.property_area.specs.Find.{hit, findSteps}
 use Rattle.property_area.specs.Value.{bytes, valueSteps, partOf}
@@ -20,11 +20,12 @@ use Rattle.sound.specs.Tree.{Value, bare, entry, Tree, leaf, node, listedOwn, l
 use Rattle.sound.specs.Sound.{Has, Sound}
 use Rattle.sound.specs.Ways.{Dir, toLeft, toBelow, toRight, toward, reached, nodes}
 use Rattle.sound.proofs.Counting.{nodes-few}
-use Rattle.lookup.specs.Look.{look, costs, shows}
+use Rattle.lookup.specs.Look.{look, costs, shows, walkCost}
 use Rattle.lookup.proofs.NodeReads.{stands-whole}
 use Rattle.lookup.proofs.FindLook.{stands-reached, find-look}
 use Rattle.lookup.proofs.Spelling.{ownOf, one-name, spells}
 use Rattle.lookup.proofs.LookWays.{look-names, found-leads}
+use Rattle.lookup.proofs.WalkCost.{walk-costs}
 use Rattle.lookup.proofs.Costs.{costs-few, Counts, look-counts}
 use Rattle.lookup.proofs.ValueReads.{own-reads}
 
@@ -61,13 +62,17 @@ own-listed (toRight ∷ way) (node place segment own left below right) at serial
     has-right at (listed left ++ listedOwn own ++ listed below) (listed right) (own-listed way right at serial name value is)
 
 module _ (area : List ℕ) (used : ℕ) (tree : Tree) (sound : Sound area used tree) where
-  -- ---- cost: a node takes 24 bytes, so a lookup compares at most (used - 112) / 24, whatever it answers; a hit says how many
+  -- ---- cost: a node takes at least 24 bytes, so a lookup compares at most (used - 112) / 24, whatever it answers; a hit says how many
   pub find-cost : (name : List ℕ) (at count : ℕ) → findSteps area name ≡ accepted (hit at count) → 24 * count ≤ used - firstFree
   find-cost name at count e =
       omega (arith, look-cost (segments name) tree at count (sym (find-look area name used tree sound) ∙ e), nodes-few area used tree sound)
 
-  pub costs-bound : (segs : List (List ℕ)) → 24 * costs segs tree ≤ used - firstFree
-  costs-bound segs = omega (arith, costs-few segs tree, nodes-few area used tree sound)
+  -- the count of a hit is that of the walk over the bytes
+  pub find-count : (name : List ℕ) (at count : ℕ) → findSteps area name ≡ accepted (hit at count) → count ≡ walkCost area (segments name) rootAt
+  find-count name at count e = (rw (sym (find-look area name used tree sound) ∙ e) at (look-counted (segments name) tree)) ∙ sym (walk-costs area name used tree sound)
+
+  pub walk-bound : (name : List ℕ) → 24 * walkCost area (segments name) rootAt ≤ used - firstFree
+  walk-bound name = omega (arith, walk-costs area name used tree sound, costs-few (segments name) tree, nodes-few area used tree sound)
 
   -- ---- the only refusals are 3 and 2
   pub find-refusals : (name : List ℕ) (number : ℕ) → findSteps area name ≡ refused number → (number ≡ numberOf Refusal.Missing) ⊎ (number ≡ numberOf Refusal.EmptySegment)

@@ -10,6 +10,8 @@ use Rattle.names.specs.declared.Order.{Order}
 use Rattle.names.specs.declared.Order.the-variants.{Less, Equal, Greater}
 use Rattle.layout.specs.declared.refusal.Refusal.{Refusal}
 use Rattle.layout.specs.Refusals.{Answer, accepted, refuse}
+use Rattle.property_area.specs.declared.trie.Searched.{Searched}
+use Rattle.property_area.specs.Trie.{segmentSteps}
 use Rattle.property_area.specs.Find.{Hit, hit}
 use Rattle.sound.specs.Tree.{Value, short, long, Entry, bare, entry, Tree, leaf, node}
 use Rattle.sound.specs.Ways.{Dir, toLeft, toRight, reached}
@@ -58,3 +60,13 @@ costs (segment ∷ rest) below =
 unfoldable pub shows : Value → List ℕ
 shows (short slot) = take (firstIn 0 slot 0 (length slot)) slot
 shows (long far text) = text
+
+-- the nodes that find compares over the bytes, whatever it answers
+abbrev pub searchCost : Searched → (ℕ → ℕ) → ℕ
+searchCost (Searched.Named named compared) on = compared + on named
+searchCost (Searched.Absent link compared) on = compared
+searchCost (Searched.Refused why) on = 0
+
+unfoldable pub walkCost : List ℕ → List (List ℕ) → ℕ → ℕ
+walkCost area [] parent = 0
+walkCost area (segment ∷ rest) parent = searchCost (segmentSteps area segment parent) (walkCost area rest)
