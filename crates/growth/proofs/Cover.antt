@@ -6,9 +6,9 @@ use mathlib.Core.List.{List, [], _∷_}
 use lib.ListN.{length}
 use Rattle.layout.specs.Layout.{wordSize, nodeSize, byteOf, placeOf, nodeTakes}
 use Rattle.sound.specs.Tree.{Entry, Tree, leaf, node, inside, entryCover, cover}
-use Rattle.sound.specs.Ways.{Dir, toLeft, toBelow, toRight, toward, reached}
+use Rattle.sound.specs.Ways.{Dir, toLeft, toBelow, toRight, toward, reached, linkField}
 use Rattle.sound.proofs.Inside.{inside-part}
-use Rattle.growth.specs.Plug.{hang, plug, linkField, linkPlace}
+use Rattle.growth.specs.Plug.{hang, plug, linkPlace}
 
 -- ---- any count that goes by what hangs where
 plug-count : (count : Tree → ℕ) → ((dir : Dir) (tree other : Tree) → count (hang dir tree other) + count (toward dir tree) ≡ count tree + count other)

@@ -5,8 +5,8 @@ use mathlib.Core.Path.{_≡_, refl, ap, _∙_}
 use mathlib.Core.List.{List, [], _∷_, _++_}
 use Rattle.layout.specs.Layout.{placeOf}
 use Rattle.sound.specs.Tree.{Entry, Tree, leaf, node}
-use Rattle.sound.specs.Ways.{Dir, toLeft, toBelow, toRight, toward, reached}
-use Rattle.growth.specs.Plug.{hang, plug, linkField, fieldPlace, linkPlace}
+use Rattle.sound.specs.Ways.{Dir, toLeft, toBelow, toRight, toward, reached, linkField}
+use Rattle.growth.specs.Plug.{hang, plug, fieldPlace, linkPlace}
 use Rattle.growth.proofs.Rules.{prefixToward, prefixAt, Placed}
 
 -- ---- one way behind another

@@ -1,9 +1,9 @@
 -- A tree with another put where a way leads, and the place of the link to what a way reaches.
 use Prim.Native.Nat.{ℕ}
 use mathlib.Core.List.{List, [], _∷_}
-use Rattle.layout.specs.Layout.{leftField, rightField, childrenField, placeOf}
+use Rattle.layout.specs.Layout.{placeOf}
 use Rattle.sound.specs.Tree.{Tree, leaf, node}
-use Rattle.sound.specs.Ways.{Dir, toLeft, toBelow, toRight, toward}
+use Rattle.sound.specs.Ways.{Dir, toLeft, toBelow, toRight, toward, linkField}
 
 -- the tree with another hung in a direction; of a leaf nothing stays
 unfoldable pub hang : Dir → Tree → Tree → Tree
@@ -15,12 +15,6 @@ hang toRight (node at name own left below right) other = node at name own left b
 unfoldable pub plug : Tree → List Dir → Tree → Tree
 plug tree [] other = other
 plug tree (dir ∷ way) other = hang dir tree (plug (toward dir tree) way other)
-
--- the field of a node that links what hangs in a direction
-abbrev pub linkField : Dir → ℕ
-linkField toLeft = leftField
-linkField toBelow = childrenField
-linkField toRight = rightField
 
 -- the byte place of the link to what hangs in a direction, where the link to the tree itself stands at a place; a leaf has that one alone
 abbrev pub fieldPlace : ℕ → Dir → Tree → ℕ

@@ -16,21 +16,15 @@ use Rattle.property_area.specs.declared.trie.Visited.{Visited}
 use Rattle.property_area.specs.declared.trie.Searched.{Searched}
 use Rattle.property_area.specs.Trie.{follow, nodesMax, byVisit, searchFrom, childSteps, segmentSteps}
 use Rattle.sound.specs.Tree.{Tree, leaf, node, link}
-use Rattle.sound.specs.Ways.{Dir, toLeft, toBelow, toRight, toward, reached, nodes}
+use Rattle.sound.specs.Ways.{Dir, toLeft, toBelow, toRight, toward, reached, nodes, linkField}
 use Rattle.lookup.specs.Look.{turn, spot, compares}
 use Rattle.lookup.proofs.NodeReads.{Standing, stands-left, stands-right, node-lies, visit-node}
-
--- the field of a node that links in a direction
-abbrev pub fieldOf : Dir → ℕ
-fieldOf toLeft = leftField
-fieldOf toBelow = childrenField
-fieldOf toRight = rightField
 
 -- the offset of the link word to what a way reaches, from that of the link to the tree itself
 unfoldable pub linkOffset : ℕ → Tree → List Dir → ℕ
 linkOffset place tree [] = place
 linkOffset place leaf (dir ∷ way) = place
-linkOffset place (node at name own left below right) (dir ∷ way) = linkOffset (at + fieldOf dir) (toward dir (node at name own left below right)) way
+linkOffset place (node at name own left below right) (dir ∷ way) = linkOffset (at + linkField dir) (toward dir (node at name own left below right)) way
 
 -- a search that ends there: at a node, or at a zero link
 unfoldable pub endsAt : Tree → ℕ → ℕ → Searched
