@@ -1,0 +1,57 @@
+-- What the programs print and read (document 01, the dump and the lookup): escaped bytes, and a line put together from pieces.
+use Prim.Native.Nat.{ℕ, _+_, _-_, _/_, _%_, min}
+use mathlib.Core.Bool.{Bool, cond, not, _&&_}
+use mathlib.Core.List.{List, [], _∷_, _++_}
+use lib.ListN.{length, take}
+use lib.Dec.{eqb, leb, ltb}
+use Rattle.words.specs.Words.{part, firstIn, put}
+
+-- ---- bytes outside 0x20 to 0x7e, and backslash, print as \x and two lower-case hex digits
+abbrev pub backslash : ℕ
+backslash = 92
+
+abbrev pub isShown : ℕ → Bool
+isShown b = leb 0x20 b && leb b 0x7e && not (eqb b backslash)
+
+-- 0 to 9, then a to f
+abbrev pub hexDigit : ℕ → ℕ
+hexDigit d = cond (ltb d 10) (48 + d) (87 + d)
+
+unfoldable pub escapedByte : ℕ → List ℕ
+escapedByte b = cond (isShown b) (b ∷ []) (backslash ∷ 120 ∷ hexDigit (b / 16) ∷ hexDigit (b % 16) ∷ [])
+
+unfoldable pub escaped : List ℕ → List ℕ
+escaped [] = []
+escaped (b ∷ bs) = escapedByte b ++ escaped bs
+
+-- a buffer is filled with them, as long as it has the four places that a byte may need: bytes taken, places filled, the buffer
+pub data Spelled : Type 0 where
+  spelled : ℕ → ℕ → List ℕ → Spelled
+
+unfoldable pub spell : List ℕ → ℕ → ℕ → List ℕ → Spelled
+spell [] taken size buffer = spelled taken size buffer
+spell (b ∷ bs) taken size buffer =
+    cond (leb (size + 4) (length buffer)) (spell bs (taken + 1) (size + length (escapedByte b)) (put buffer size (escapedByte b))) (spelled taken size buffer)
+
+-- ---- names stand one per line: from a place of the input on, a piece goes up to a line feed or to the input's end
+abbrev pub lineFeed : ℕ
+lineFeed = 10
+
+abbrev pub pieceEnd : List ℕ → ℕ → ℕ
+pieceEnd input from = firstIn lineFeed input from (length input - from)
+
+-- it is put behind what the line has; what does not fit is dropped, and the line is then full
+pub data Fed : Type 0 where
+  fed : ℕ → ℕ → Bool → List ℕ → Fed
+
+-- bytes that the line has, where the input goes on, whether the line has ended, the line
+abbrev pub feedPiece : List ℕ → ℕ → List ℕ → ℕ → List ℕ → Fed
+feedPiece input end line have piece =
+    fed (have + min (length piece) (length line - have)) (min (end + 1) (length input)) (ltb end (length input)) (put line have (take (length line - have) piece))
+
+abbrev pub feedFrom : List ℕ → ℕ → List ℕ → ℕ → Fed
+feedFrom input from line have = feedPiece input (pieceEnd input from) line have (part input from (pieceEnd input from))
+
+-- a place past the input's end is its end, and a line has no more than its length
+unfoldable pub feed : List ℕ → ℕ → List ℕ → ℕ → Fed
+feed input from line have = feedFrom input (min from (length input)) line (min have (length line))

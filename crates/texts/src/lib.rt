@@ -1,0 +1,112 @@
+// The text of the programs, as functions on slices: escaped bytes, and a line put together from pieces.
+ghost use mathlib.Core.Path.{_≡_};
+ghost use Prim.Native.Nat.{_+_, _≤_, _<_, min};
+ghost use lib.ListN.{length};
+ghost use Rattle.words.specs.Words.{put};
+ghost use Rattle.texts.specs.Text.{isShown, hexDigit, escapedByte, spelled, spell, fed, feed};
+
+// Whether a byte prints as it is.
+fn is_shown(b: u8) -> bool
+    ensures { λ r. ⌜ r ≡ isShown b ⌝ }
+{
+    if b < 0x20 {
+        return false;
+    }
+    if 0x7e < b {
+        return false;
+    }
+    b != b'\\'
+}
+
+fn hex_digit(d: u8) -> u8
+    requires { ⌜ d < 16 ⌝ }
+    ensures { λ r. ⌜ r ≡ hexDigit d ⌝ }
+{
+    if d < 10 {
+        return 48 + d;
+    }
+    87 + d
+}
+
+// Puts a byte, escaped, at a place of a buffer; the next place.
+fn put_escaped(buffer: &mut [u8], at: usize, b: u8) -> usize
+    requires { ⌜ at + 4 ≤ length (now buffer) ⌝ }
+    ensures { λ r. ⌜ (r ≡ at + length (escapedByte b)) × (r ≤ at + 4) × (now (buffer .exit) ≡ put (now (buffer .entry)) at (escapedByte b)) ⌝ }
+{
+    if is_shown(b) {
+        buffer[at] = b;
+        return at + 1;
+    }
+    buffer[at] = b'\\';
+    buffer[at + 1] = b'x';
+    buffer[at + 2] = hex_digit(b / 16);
+    buffer[at + 3] = hex_digit(b % 16);
+    at + 4
+}
+
+// How far a text was escaped: bytes taken of it, places filled of the buffer.
+pub struct Escaped {
+    pub taken: usize,
+    pub size: usize,
+}
+
+// Fills a buffer with a text's bytes, escaped, as long as it has the four places that a byte may need.
+pub fn escape(text: &[u8], buffer: &mut [u8]) -> Escaped
+    ensures { λ r. ⌜ spelled (r .taken) (r .size) (now (buffer .exit)) ≡ spell (now (text .entry)) 0 0 (now (buffer .entry)) ⌝ }
+{
+    let mut taken = 0;
+    let mut size = 0;
+    while taken < text.len() {
+        if buffer.len() < 4 {
+            return Escaped { taken, size };
+        }
+        if buffer.len() - 4 < size {
+            return Escaped { taken, size };
+        }
+        size = put_escaped(buffer, size, text[taken]);
+        taken += 1;
+    }
+    Escaped { taken, size }
+}
+
+// What became of a piece of input: bytes that the line has, where the input goes on, whether the line has ended.
+pub struct Piece {
+    pub have: usize,
+    pub next: usize,
+    pub ended: bool,
+}
+
+// Puts the input from a place up to its next line feed behind what a line has. What does not fit is dropped: the line is then full.
+pub fn assemble(input: &[u8], from: usize, line: &mut [u8], have: usize) -> Piece
+    ensures { λ r. ⌜ fed (r .have) (r .next) (r .ended) (now (line .exit)) ≡ feed (now (input .entry)) from (now (line .entry)) have ⌝ }
+{
+    let start = fit(from, input.len());
+    let had = fit(have, line.len());
+    let end = words::first(input, b'\n', start, input.len());
+    let kept = fit(end - start, line.len() - had);
+    words::copy(line, had, &input[start..start + kept]);
+    Piece {
+        have: had + kept,
+        next: behind(end, input.len()),
+        ended: end < input.len(),
+    }
+}
+
+fn fit(size: usize, room: usize) -> usize
+    ensures { λ r. ⌜ r ≡ min size room ⌝ }
+{
+    if size < room {
+        return size;
+    }
+    room
+}
+
+fn behind(end: usize, len: usize) -> usize
+    requires { ⌜ end ≤ len ⌝ }
+    ensures { λ r. ⌜ r ≡ min (end + 1) len ⌝ }
+{
+    if end < len {
+        return end + 1;
+    }
+    len
+}
