@@ -3,6 +3,7 @@
 mod any_bytes;
 mod listing;
 mod refusals;
+mod samples;
 mod settled;
 
 use property_area::{Area, AreaMut};
