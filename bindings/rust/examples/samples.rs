@@ -1,6 +1,7 @@
 //! Makes the areas of samples/ in a folder, by the proved calls alone: `samples FOLDER`.
 //!
 //! - `fresh.area`: formatted, nothing added.
+//! - `small.area`: two settings, one updated, one long: the picture in the README.
 //! - `inverter.area`: an inverter's settings, some of them updated, one long.
 //! - `pulses.area`: two meters' energy pulses day by day, each counter added at 0 and updated three times, until the area is full.
 //! - `damaged.area`: `inverter.area` with the root's children leading to the last bytes, where no node fits.
@@ -9,6 +10,10 @@ use std::path::Path;
 use std::{env, error, fs};
 
 use property_area::{AreaMut, Refusal};
+
+const NOTE: &str =
+    "Roof south 34 degrees, roof west 21 degrees. Meter cabinet left of the barn door. Access over the farmyard; dog. \
+     The feed-in contract runs to the end of 2031.";
 
 const SETTINGS: [(&str, &str); 14] = [
     ("inverter.model", "PX-4200"),
@@ -23,11 +28,7 @@ const SETTINGS: [(&str, &str); 14] = [
     ("inverter.string.a.panels", "11"),
     ("inverter.string.b.panels", "9"),
     ("site.name", "Hoeve \"De Rietkraag\" \\ schuur\tzuid, 34\u{b0}"),
-    (
-        "site.note",
-        "Roof south 34 degrees, roof west 21 degrees. Meter cabinet left of the barn door. Access over the farmyard; dog. \
-         The feed-in contract runs to the end of 2031.",
-    ),
+    ("site.note", NOTE),
     ("site.contact", ""),
 ];
 
@@ -37,6 +38,15 @@ const UPDATES: [(&str, &str); 4] = [
     ("site.contact", "+31 6 5550 0182"),
     ("inverter.firmware", "3.12.1"),
 ];
+
+fn small() -> Result<Vec<u8>, Refusal> {
+    let mut bytes = vec![0; 768];
+    let mut area = AreaMut::format(&mut bytes)?;
+    area.add("inverter.limit", "70")?;
+    area.add("inverter.note", NOTE)?;
+    area.update("inverter.limit", "100")?;
+    Ok(bytes)
+}
 
 fn inverter() -> Result<Vec<u8>, Refusal> {
     let mut bytes = vec![0; 4_096];
@@ -95,6 +105,7 @@ fn main() -> Result<(), Box<dyn error::Error>> {
     let settings = inverter()?;
     let areas = [
         ("fresh.area", fresh),
+        ("small.area", small()?),
         ("damaged.area", damaged(settings.clone())),
         ("inverter.area", settings),
         ("pulses.area", pulses()?),
