@@ -1,18 +1,19 @@
 -- Laws of specs/Text.antt, one for each way out of the code: which bytes are shown, digits, a byte's stores, a turn of the escaping loop, a piece fed.
-use Prim.Native.Nat.{ℕ, _+_, _-_, _/_, _%_, min, _≤_, _<_}
-use mathlib.Core.Path.{_≡_, refl}
+use Prim.Native.Nat.{ℕ, zero, suc, _+_, _-_, _/_, _%_, min, _≤_, _<_}
+use mathlib.Core.Path.{_≡_, refl, sym, ap, _∙_}
 use mathlib.Core.Bool.{true, false, not}
-use mathlib.Core.List.{List}
-use native.Mathlib.Nat.{add-assoc, add-sub-cancel-left}
+use mathlib.Core.List.{List, [], _∷_, _++_, append-nil}
+use native.Mathlib.Nat.{zero-add, add-zero, add-assoc, add-sub-cancel-left}
 use native.Mathlib.Numerals.{add-one}
 use native.Mathlib.Omega.{arith}
 use borrow.Author.Tests.{lt-ltb, le-ltb, le-leb, lt-leb, leb-true, leb-false}
 use lib.Dec.{eqb, leb, ltb}
-use lib.ListN.{length, getD, set, take, drop, length-take, drop-of-length-le}
-use lib.Seq.{take-all, take-take, drop-cons}
+use lib.ListN.{length, getD, set, take, drop, length-append, length-set, length-take, drop-of-length-le}
+use lib.Seq.{append-snoc, take-suc-set, take-all, take-take, drop-cons, set-out}
 use Rattle.words.specs.Words.{part, put}
-use Rattle.words.proofs.Laws.{bool-cases, part-length, first-low, first-high}
-use Rattle.texts.specs.Text.{backslash, isShown, hexDigit, escapedByte, spelled, spell, lineFeed, pieceEnd, fed, feed}
+use Rattle.words.proofs.Laws.{bool-cases, put-length, part-length, first-low, first-high}
+use Rattle.words.proofs.StoreLaws.{put-append}
+use Rattle.texts.specs.Text.{backslash, isShown, hexDigit, escapedByte, escaped, saying, said, lineFeed, pieceEnd, fed, feed}
 
 -- ---- bytes that print as they are
 pub shown-low : (b : ℕ) → b < 0x20 → false ≡ isShown b
@@ -42,20 +43,111 @@ module _ (s : List ℕ) (at b : ℕ) where
   unfolding escapedByte put
   put-hidden h high low e f = rw (← h, e, f) (refl, omega arith, simp add-assoc)
 
--- ---- the rest of a text, from a byte on: no room for it, one byte more, none left
-module _ (text : List ℕ) (taken size : ℕ) (buffer : List ℕ) where
-  pub spell-full : taken < length text → length buffer < size + 4 → spelled taken size buffer ≡ spell (drop taken text) taken size buffer
-  unfolding spell
-  spell-full h k = rw (drop-cons text taken 0 h, lt-leb (size + 4) (length buffer) k)
+-- ---- what is put behind a buffer's end is dropped
+pub put-past : (s : List ℕ) (at : ℕ) (bs : List ℕ) → length s ≤ at → put s at bs ≡ s
+unfolding put
+put-past s at [] h = refl
+put-past s at (b ∷ bs) h = rw (set-out s at b h) (put-past s (at + 1) bs (omega arith))
 
-  pub spell-on : taken < length text → size + 4 ≤ length buffer → (next : ℕ) (after : List ℕ) → next ≡ size + length (escapedByte (getD text taken 0))
-      → after ≡ put buffer size (escapedByte (getD text taken 0)) → spell (drop taken text) taken size buffer ≡ spell (drop (taken + 1) text) (taken + 1) next after
-  unfolding spell
-  spell-on h k next after e f = rw (drop-cons text taken 0 h, le-leb (size + 4) (length buffer) k, e, f, add-one)
+pub put-cut : (s : List ℕ) (at : ℕ) (bs : List ℕ) (k : ℕ) → length s ≤ at + k → put s at (take k bs) ≡ put s at bs
+unfolding put
+put-cut s at [] zero h = refl
+put-cut s at [] (suc k) h = refl
+put-cut s at (b ∷ bs) zero h = sym (put-past s at (b ∷ bs) (omega arith))
+put-cut s at (b ∷ bs) (suc k) h = put-cut (set s at b) (at + 1) bs k (rw length-set (omega arith))
 
-  pub spell-end : length text ≤ taken → spelled taken size buffer ≡ spell (drop taken text) taken size buffer
-  unfolding spell
-  spell-end h = rw (drop-of-length-le text {i = taken} h)
+-- ---- a text said: as far as it fits, and one text after another
+module _ (out : List ℕ) (at : ℕ) where
+  pub say-says : (text : List ℕ) (start kept : ℕ) (after : List ℕ) → start ≡ min at (length out) → kept ≡ min (length text) (length out - start)
+      → after ≡ put out start (take kept text) → saying (start + kept) after ≡ said out at text
+  unfolding said
+  say-says text start kept after s k p =
+      bool-cases (leb at (length out))
+      (λ t.
+      let h : at ≤ length out = leb-true at (length out) t in
+      let a : start ≡ at = omega arith in
+      let n : start + kept ≡ min (at + length text) (length out) = omega arith in
+      rw (n, p, a, fits at text kept (rw (← a) k)))
+      (λ t.
+      let h : length out < at = leb-false at (length out) t in
+      let n : start + kept ≡ min (at + length text) (length out) = omega arith in
+      rw (n, p, put-past out start (take kept text) (omega arith), put-past out at text (omega arith)))
+    where
+      fits : (from : ℕ) (bs : List ℕ) (keep : ℕ) → keep ≡ min (length bs) (length out - from) → put out from (take keep bs) ≡ put out from bs
+      fits from bs keep e =
+          bool-cases (leb (length bs) keep)
+          (λ t. rw (take-all keep bs (leb-true (length bs) keep t)))
+          (λ t. put-cut out from bs keep (omega (arith, leb-false (length bs) keep t)))
+
+  pub said-append : (a b : List ℕ) (next : ℕ) (after : List ℕ) → saying next after ≡ said out at a → said after next b ≡ said out at (a ++ b)
+  unfolding said
+  said-append a b next after e =
+      let n : next ≡ min (at + length a) (length out) = cc in
+      let p : after ≡ put out at a = cc in
+      let l : length after ≡ length out = rw p (put-length out at a) in
+      let m : min (next + length b) (length after) ≡ min (at + length (a ++ b)) (length out) = rw length-append (omega arith) in
+      rw (m, put-append, ← p) (ap (saying (min (at + length (a ++ b)) (length out))) (goes n l))
+    where
+      goes : next ≡ min (at + length a) (length out) → length after ≡ length out → put after next b ≡ put after (at + length a) b
+      goes n l =
+          bool-cases (leb (at + length a) (length out))
+          (λ t. let h : next ≡ at + length a = omega (arith, leb-true (at + length a) (length out) t) in rw h)
+          (λ t.
+          let h = leb-false (at + length a) (length out) t in
+          put-past after next b (omega arith) ∙ sym (put-past after (at + length a) b (omega arith)))
+
+  -- the next place is no further than the end, and the length stays
+  pub said-within : (text : List ℕ) (next : ℕ) (after : List ℕ) → saying next after ≡ said out at text → (next ≤ length after) × (length after ≡ length out)
+  unfolding said
+  said-within text next after e =
+      let n : next ≡ min (at + length text) (length out) = cc in
+      let p : after ≡ put out at text = cc in
+      let l : length after ≡ length out = rw p (put-length out at text) in
+      (omega arith, l)
+
+-- ---- a turn of escaping: a place past the end is the end; one byte more; none left
+pub put-front : (s : List ℕ) (at : ℕ) (bs : List ℕ) → at + length bs ≤ length s → take (at + length bs) (put s at bs) ≡ take at s ++ bs
+unfolding put
+put-front s at [] h = rw add-zero (sym (append-nil (take at s)))
+put-front s at (b ∷ bs) h =
+    let e : at + suc (length bs) ≡ at + 1 + length bs = omega arith in
+    rw e (put-front (set s at b) (at + 1) bs (simp length-set (omega arith)) ∙ rw (add-one, take-suc-set s at b (omega arith)) (append-snoc (take at s) b bs))
+
+byte-few : (b : ℕ) → length (escapedByte b) ≤ 4
+unfolding escapedByte
+byte-few b = bool-cases (isShown b) (λ t. rw t (omega arith)) (λ t. rw t (omega arith))
+
+module _ (s : List ℕ) (b size : ℕ) (after : List ℕ) (l : length s ≡ 4) (e : size ≡ 0 + length (escapedByte b)) (p : after ≡ put s 0 (escapedByte b)) where
+  pub byte-there : take size after ≡ escapedByte b
+  byte-there = rw (e, p) (put-front s 0 (escapedByte b) (omega (arith, byte-few b)))
+
+  pub byte-count : size ≡ length (take size after)
+  byte-count = rw byte-there (e ∙ zero-add (length (escapedByte b)))
+
+  pub byte-place : length after ≡ 4
+  byte-place = rw p (put-length s 0 (escapedByte b) ∙ l)
+
+module _ (text out : List ℕ) (next : ℕ) where
+  pub said-from : (at : ℕ) → next ≡ min at (length out) → said out at text ≡ said out next text
+  unfolding said
+  said-from at n =
+      bool-cases (leb at (length out))
+      (λ t. let h : next ≡ at = omega (arith, leb-true at (length out) t) in rw h)
+      (λ t.
+      let h : length out < at = leb-false at (length out) t in
+      let m : min (at + length text) (length out) ≡ min (next + length text) (length out) = omega arith in
+      rw (m, put-past out at text (omega arith), put-past out next text (omega arith)))
+
+  pub said-byte : (taken : ℕ) → taken < length text → (n : ℕ) (after bytes : List ℕ) → bytes ≡ escapedByte (getD text taken 0) → saying n after ≡ said out next bytes
+      → said out next (escaped (drop taken text)) ≡ said after n (escaped (drop (taken + 1) text))
+  unfolding escaped
+  said-byte taken h n after bytes e f = rw (drop-cons text taken 0 h, add-one) (sym (said-append out next (escapedByte (getD text taken 0)) (escaped (drop (suc taken) text)) n after (rw e at f)))
+
+  pub said-end : (taken : ℕ) → length text ≤ taken → next ≤ length out → saying next out ≡ said out next (escaped (drop taken text))
+  unfolding said escaped put
+  said-end taken h k =
+      let m : next ≡ min (next + 0) (length out) = omega arith in
+      rw (drop-of-length-le text {i = taken} h) (ap (λ z. saying z out) m)
 
 -- ---- a piece, as far as it fits
 take-min : (k n : ℕ) (s : List ℕ) → take k (take n s) ≡ take (min n k) s

@@ -1,23 +1,19 @@
--- What texts promise: how much of a text is escaped and where it stands, texts escaped piece by piece, what a line has, no second outcome.
-use Prim.Native.Nat.{ℕ, zero, suc, _+_, _-_, min, _≤_, _<_}
-use mathlib.Core.Path.{_≡_, refl, sym, ap, _∙_}
+-- What texts promise: a text escaped piece by piece, where a text then stands, what a line has, no second outcome.
+use Prim.Native.Nat.{ℕ, _+_, _-_, min, _≤_, _<_}
+use mathlib.Core.Path.{_≡_, refl, sym, _∙_}
 use mathlib.Core.Bool.{Bool, true, false}
-use mathlib.Core.List.{List, [], _∷_, _++_, append-nil, append-assoc}
-use mathlib.Core.Logic.{_⊎_, inl, inr}
-use native.Mathlib.Nat.{zero-add, add-zero}
-use native.Mathlib.Numerals.{add-one}
+use mathlib.Core.List.{List, [], _∷_, _++_, append-assoc}
 use native.Mathlib.Omega.{arith}
-use borrow.Author.Tests.{leb-true, leb-false, ltb-true, ltb-false}
-use lib.Dec.{leb, ltb}
-use lib.ListN.{length, getD, set, take, length-append, length-set, length-take}
-use lib.Seq.{append-snoc, length-take-le, take-suc-set, take-append-add}
+use borrow.Author.Tests.{ltb-true, ltb-false}
+use lib.Dec.{ltb}
+use lib.ListN.{length, getD, take, length-take}
+use lib.Seq.{length-take-le, take-append-add}
 use Rattle.words.specs.Words.{part, put}
-use Rattle.words.proofs.Laws.{bool-cases, put-length, first-low, first-high}
-use Rattle.words.proofs.StoreLaws.{put-append}
+use Rattle.words.proofs.Laws.{first-low, first-high}
 use Rattle.words.proofs.Promises.{first-there}
-use Rattle.texts.specs.Text.{isShown, escapedByte, escaped, spelled, spell, lineFeed, pieceEnd, fed, feedFrom, feed}
-use Rattle.texts.specs.declared.Escaped.{Escaped}
+use Rattle.texts.specs.Text.{escapedByte, escaped, saying, said, lineFeed, pieceEnd, fed, feedFrom, feed}
 use Rattle.texts.specs.declared.Piece.{Piece}
+use Rattle.texts.proofs.Laws.{put-front}
 
 -- ---- a text escaped piece by piece is the text escaped
 pub escaped-append : (a b : List ℕ) → escaped (a ++ b) ≡ escaped a ++ escaped b
@@ -25,94 +21,20 @@ unfolding escaped
 escaped-append [] b = refl
 escaped-append (x ∷ a) b = rw (escaped-append a b) (sym (append-assoc (escapedByte x) (escaped a) (escaped b)))
 
--- ---- what was taken of a text, and what stands in the buffer for it; it ends with the text or where the buffer has no four places more
-record Spells (text : List ℕ) (size : ℕ) (buffer : List ℕ) (taken filled : ℕ) (out : List ℕ) : Type 0 where
-  pub within : taken ≤ length text
-  pub fills : filled ≡ size + length (escaped (take taken text))
-  pub bytes : out ≡ put buffer size (escaped (take taken text))
-  pub stops : (taken ≡ length text) ⊎ (length buffer < filled + 4)
-  pub fits : size ≤ length buffer → filled ≤ length buffer
+-- ---- a text in a buffer: where it fits it stands there whole, behind what stood before it; another text goes on from there (`said-append`)
+pub said-stands : (out : List ℕ) (at : ℕ) (text : List ℕ) (next : ℕ) (after : List ℕ) → saying next after ≡ said out at text → at + length text ≤ length out
+    → (next ≡ at + length text) × (take next after ≡ take at out ++ text)
+unfolding said
+said-stands out at text next after e h =
+    let m : next ≡ min (at + length text) (length out) = cc in
+    let p : after ≡ put out at text = cc in
+    let n : next ≡ at + length text = omega arith in
+    (n, rw (n, p) (put-front out at text h))
 
--- none of it
-spells-stop : (text : List ℕ) (at size : ℕ) (buffer : List ℕ) → (0 ≡ length text) ⊎ (length buffer < size + 4)
-    → (end filled : ℕ) (out : List ℕ) → spelled end filled out ≡ spelled at size buffer → (taken : ℕ) × (end ≡ at + taken) × Spells text size buffer taken filled out
-unfolding escaped put
-spells-stop text at size buffer s end filled out e =
-    let p : end ≡ at = cc in
-    let q : filled ≡ size = cc in
-    let r : out ≡ buffer = cc in
-    (0, p ∙ sym (add-zero at), rw (q, r) (record { within = omega arith; fills = sym (add-zero size); bytes = refl; stops = s; fits = λ h. h }))
-
--- one byte, and then the rest
-byte-few : (b : ℕ) → length (escapedByte b) ≤ 4
-unfolding escapedByte
-byte-few b = bool-cases (isShown b) (λ t. rw t (omega arith)) (λ t. rw t (omega arith))
-
-spells-more : (b : ℕ) (text : List ℕ) (size : ℕ) (buffer : List ℕ) (taken filled : ℕ) (out : List ℕ) → size + 4 ≤ length buffer
-    → Spells text (size + length (escapedByte b)) (put buffer size (escapedByte b)) taken filled out → Spells (b ∷ text) size buffer (suc taken) filled out
-unfolding escaped
-spells-more b text size buffer taken filled out room s =
-    record {
-      within = omega (arith, s .within);
-      fills = rw length-append (omega (arith, s .fills));
-      bytes = s .bytes ∙ sym (put-append buffer size (escapedByte b) (escaped (take taken text)));
-      stops = on (s .stops);
-      fits = λ h. rw put-length at (s .fits (rw put-length (omega (arith, byte-few b))));
-    }
-  where
-    on : (taken ≡ length text) ⊎ (length (put buffer size (escapedByte b)) < filled + 4) → (suc taken ≡ suc (length text)) ⊎ (length buffer < filled + 4)
-    on (inl e) = inl (ap suc e)
-    on (inr h) = inr (omega (arith, put-length buffer size (escapedByte b)))
-
-spell-says : (text : List ℕ) (at size : ℕ) (buffer : List ℕ) (end filled : ℕ) (out : List ℕ) → spelled end filled out ≡ spell text at size buffer
-    → (taken : ℕ) × (end ≡ at + taken) × Spells text size buffer taken filled out
-unfolding spell
-spell-says [] at size buffer end filled out e = spells-stop [] at size buffer (inl refl) end filled out e
-spell-says (b ∷ text) at size buffer end filled out e =
-    bool-cases (leb (size + 4) (length buffer))
-    (λ t.
-    let s = spell-says text (at + 1) (size + length (escapedByte b)) (put buffer size (escapedByte b)) end filled out (rw t at e) in
-    (suc (s .0), omega (arith, s .1), spells-more b text size buffer (s .0) filled out (leb-true (size + 4) (length buffer) t) (s .2)))
-    (λ t. spells-stop (b ∷ text) at size buffer (inr (leb-false (size + 4) (length buffer) t)) end filled out (rw t at e))
-
-pub escape-says : (text buffer : List ℕ) (taken size : ℕ) (out : List ℕ) → spelled taken size out ≡ spell text 0 0 buffer
-    → (taken ≤ length text) × (size ≡ length (escaped (take taken text))) × (out ≡ put buffer 0 (escaped (take taken text)))
-    × ((taken ≡ length text) ⊎ (length buffer < size + 4))
-escape-says text buffer taken size out e =
-    let s = spell-says text 0 0 buffer taken size out e in
-    let n : taken ≡ s .0 = omega (arith, s .1) in
-    rw n (s .2 .within, s .2 .fills ∙ zero-add _, s .2 .bytes, s .2 .stops)
-
-pub escape-fits : (text buffer : List ℕ) (taken size : ℕ) (out : List ℕ) → spelled taken size out ≡ spell text 0 0 buffer → size ≤ length buffer
-escape-fits text buffer taken size out e = spell-says text 0 0 buffer taken size out e .2 .fits (omega arith)
-
--- with room for a byte, some of a text is taken: piece by piece it ends
-pub escape-moves : (text buffer : List ℕ) (taken size : ℕ) (out : List ℕ) → spelled taken size out ≡ spell text 0 0 buffer → 4 ≤ length buffer → 0 < length text → 0 < taken
-unfolding escaped
-escape-moves text buffer taken size out e room more = by taken (escape-says text buffer taken size out e .1) (escape-says text buffer taken size out e .3)
-  where
-    by : (n : ℕ) → size ≡ length (escaped (take n text)) → (n ≡ length text) ⊎ (length buffer < size + 4) → 0 < n
-    by (suc n) f s = omega arith
-    by zero f (inl g) = omega arith
-    by zero f (inr g) = omega arith
-
-pub one-escape : (text buffer : List ℕ) (r s : Escaped) (a b : List ℕ) → spelled (r .taken) (r .size) a ≡ spell text 0 0 buffer
-    → spelled (s .taken) (s .size) b ≡ spell text 0 0 buffer → (r ≡ s) × (a ≡ b)
-one-escape text buffer r s a b p q =
-    let e : spelled (r .taken) (r .size) a ≡ spelled (s .taken) (s .size) b = p ∙ sym q in
-    (one (r .taken) (s .taken) (r .size) (s .size) (cc) (cc), (cc))
-  where
-    one : (t u m n : ℕ) → t ≡ u → m ≡ n → _≡_ {A = Escaped} (record { taken = t; size = m }) (record { taken = u; size = n })
-    one t u m n g h = rw (g, h)
+pub one-said : (out : List ℕ) (at : ℕ) (text : List ℕ) (r s : ℕ) (a b : List ℕ) → saying r a ≡ said out at text → saying s b ≡ said out at text → (r ≡ s) × (a ≡ b)
+one-said out at text r s a b p q = let e : saying r a ≡ saying s b = p ∙ sym q in ((cc), (cc))
 
 -- ---- a line
-put-front : (s : List ℕ) (at : ℕ) (bs : List ℕ) → at + length bs ≤ length s → take (at + length bs) (put s at bs) ≡ take at s ++ bs
-unfolding put
-put-front s at [] h = rw add-zero (sym (append-nil (take at s)))
-put-front s at (b ∷ bs) h =
-    let e : at + suc (length bs) ≡ at + 1 + length bs = omega arith in
-    rw e (put-front (set s at b) (at + 1) bs (simp length-set (omega arith)) ∙ rw (add-one, take-suc-set s at b (omega arith)) (append-snoc (take at s) b bs))
-
 fit-front : (line : List ℕ) (have : ℕ) (piece : List ℕ) → have ≤ length line
     → take (have + min (length piece) (length line - have)) (put line have (take (length line - have) piece)) ≡ take (length line) (take have line ++ piece)
 fit-front line have piece h =

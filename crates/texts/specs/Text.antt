@@ -24,14 +24,12 @@ unfoldable pub escaped : List ℕ → List ℕ
 escaped [] = []
 escaped (b ∷ bs) = escapedByte b ++ escaped bs
 
--- a buffer is filled with them, as long as it has the four places that a byte may need: bytes taken, places filled, the buffer
-pub data Spelled : Type 0 where
-  spelled : ℕ → ℕ → List ℕ → Spelled
+-- ---- a text goes into a buffer from a place on; what would stand behind the buffer's end is dropped: the next place, the buffer
+pub data Said : Type 0 where
+  saying : ℕ → List ℕ → Said
 
-unfoldable pub spell : List ℕ → ℕ → ℕ → List ℕ → Spelled
-spell [] taken size buffer = spelled taken size buffer
-spell (b ∷ bs) taken size buffer =
-    cond (leb (size + 4) (length buffer)) (spell bs (taken + 1) (size + length (escapedByte b)) (put buffer size (escapedByte b))) (spelled taken size buffer)
+unfoldable pub said : List ℕ → ℕ → List ℕ → Said
+said out at text = saying (min (at + length text) (length out)) (put out at text)
 
 -- ---- names stand one per line: from a place of the input on, a piece goes up to a line feed or to the input's end
 abbrev pub lineFeed : ℕ

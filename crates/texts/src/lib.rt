@@ -3,7 +3,7 @@ ghost use mathlib.Core.Path.{_≡_};
 ghost use Prim.Native.Nat.{_+_, _≤_, _<_, min};
 ghost use lib.ListN.{length};
 ghost use Rattle.words.specs.Words.{put};
-ghost use Rattle.texts.specs.Text.{isShown, hexDigit, escapedByte, spelled, spell, fed, feed};
+ghost use Rattle.texts.specs.Text.{isShown, hexDigit, escapedByte, escaped, saying, said, fed, feed};
 
 // Whether a byte prints as it is.
 fn is_shown(b: u8) -> bool
@@ -44,29 +44,29 @@ fn put_escaped(buffer: &mut [u8], at: usize, b: u8) -> usize
     at + 4
 }
 
-// How far a text was escaped: bytes taken of it, places filled of the buffer.
-pub struct Escaped {
-    pub taken: usize,
-    pub size: usize,
+// Puts a text at a place of a buffer; what would stand behind the buffer's end is dropped. The next place.
+pub fn say(out: &mut [u8], at: usize, text: &[u8]) -> usize
+    ensures { λ r. ⌜ saying r (now (out .exit)) ≡ said (now (out .entry)) at (now (text .entry)) ⌝ }
+{
+    let start = fit(at, out.len());
+    let kept = fit(text.len(), out.len() - start);
+    words::copy(out, start, &text[..kept]);
+    start + kept
 }
 
-// Fills a buffer with a text's bytes, escaped, as long as it has the four places that a byte may need.
-pub fn escape(text: &[u8], buffer: &mut [u8]) -> Escaped
-    ensures { λ r. ⌜ spelled (r .taken) (r .size) (now (buffer .exit)) ≡ spell (now (text .entry)) 0 0 (now (buffer .entry)) ⌝ }
+// The same, escaped.
+pub fn say_escaped(out: &mut [u8], at: usize, text: &[u8]) -> usize
+    ensures { λ r. ⌜ saying r (now (out .exit)) ≡ said (now (out .entry)) at (escaped (now (text .entry))) ⌝ }
 {
+    let mut spelled = [0u8; 4];
+    let mut next = fit(at, out.len());
     let mut taken = 0;
-    let mut size = 0;
     while taken < text.len() {
-        if buffer.len() < 4 {
-            return Escaped { taken, size };
-        }
-        if buffer.len() - 4 < size {
-            return Escaped { taken, size };
-        }
-        size = put_escaped(buffer, size, text[taken]);
+        let size = put_escaped(&mut spelled, 0, text[taken]);
+        next = say(out, next, &spelled[..size]);
         taken += 1;
     }
-    Escaped { taken, size }
+    next
 }
 
 // What became of a piece of input: bytes that the line has, where the input goes on, whether the line has ended.
