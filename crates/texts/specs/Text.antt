@@ -1,4 +1,4 @@
--- What the programs print and read (document 01, the dump and the lookup): escaped bytes, and a line put together from pieces.
+-- What the programs print and read (document 01, the dump and the lookup): bytes escaped, a text put into a buffer, a line put together from pieces.
 use Prim.Native.Nat.{ℕ, _+_, _-_, _/_, _%_, min}
 use mathlib.Core.Bool.{Bool, cond, not, _&&_}
 use mathlib.Core.List.{List, [], _∷_, _++_}
