@@ -6,7 +6,7 @@ use mathlib.Core.Bool.{true}
 use mathlib.Core.List.{List, _++_}
 use lib.ListN.{length, length-append}
 use lib.Dec.{leb}
-use borrow.Author.Tests.{le-leb}
+use borrow.Author.Tests.{le-leb, leb-true}
 use Rattle.words.proofs.Laws.{bool-cases}
 use Rattle.words.specs.Words.{put}
 use Rattle.layout.specs.declared.refusal.Refusal.{Refusal}
@@ -93,23 +93,32 @@ listed-nodes (node at name own left below right) =
 pub listed-few : (area : List ℕ) (used : ℕ) (tree : Tree) → Sound area used tree → 24 * length (listed tree) ≤ used - firstFree
 listed-few area used tree S = omega (arith, listed-nodes tree, nodes-few area used tree S)
 
--- and so the answer of listing: it fits 32 bits
-pub answer-few : (area scratch list : List ℕ) (r : Listed) (a c : List ℕ) → ((judged : Judged area) → lists (listedAnswer r) a c ≡ listSteps area scratch list judged)
-    → (n : ℕ) → r ≡ Listed.Entries n → n ≤ areaMax
+-- what a listing that is not refused says: the area is sound, and these are its tree's entries
+pub record ListTells (area scratch list : List ℕ) (n : ℕ) (a c : List ℕ) : Type 0 where
+  pub tree : Tree
+  pub sound : Sound area (usedOf area) tree
+  pub count : n ≡ length (listed tree)
+  pub fits : n ≤ length list
+  pub cleared : a ≡ blank scratch
+  pub notes : c ≡ put list 0 (listed tree)
+
+pub list-tells : (area scratch list : List ℕ) (n : ℕ) (a c : List ℕ) (judged : Judged area) → lists (accepted n) a c ≡ listSteps area scratch list judged
+    → ListTells area scratch list n a c
 unfolding surveySteps
-answer-few area scratch list r a c says n e = by (judge area) (ap (λ (x : Listed). lists (listedAnswer x) a c) (sym e) ∙ says (judge area))
+list-tells area scratch list n a c judged q = by judged q
   where
-    clash : (number : ℕ) (x y : List ℕ) → lists (accepted n) a c ≡ lists (refused number) x y → n ≤ areaMax
+    clash : (number : ℕ) (x y : List ℕ) → lists (accepted n) a c ≡ lists (refused number) x y → ListTells area scratch list n a c
     clash number x y q = absurd (let z : _≡_ {A = ℕ} 0 1 = cc in omega arith)
 
-    by : (judged : Judged area) → lists (accepted n) a c ≡ listSteps area scratch list judged → n ≤ areaMax
+    by : (judged : Judged area) → lists (accepted n) a c ≡ listSteps area scratch list judged → ListTells area scratch list n a c
     by (sound tree S) q =
         bool-cases (headerOk area)
         (λ h. bool-cases (leb (scratchMin area) (length scratch))
         (λ k. bool-cases (leb (length (listed tree)) (length list))
-        (λ l. let x : lists (accepted n) a c ≡ lists (accepted (length (listed tree))) (blank scratch) (put list 0 (listed tree)) = rw (h, k, l) at q in
+        (λ l.
+        let x : lists (accepted n) a c ≡ lists (accepted (length (listed tree))) (blank scratch) (put list 0 (listed tree)) = rw (h, k, l) at q in
         let m : n ≡ length (listed tree) = cc in
-        omega (arith, m, listed-few area (usedOf area) tree S, S .front .high, header-max area h))
+        record { tree = tree; sound = S; count = m; fits = omega (arith, m, leb-true (length (listed tree)) (length list) l); cleared = cc; notes = cc })
         (λ l. clash _ _ _ (rw (h, k, l) at q)))
         (λ k. clash _ _ _ (rw (h, k) at q)))
         (λ h. clash _ _ _ (rw h at q))
@@ -117,6 +126,13 @@ answer-few area scratch list r a c says n e = by (judge area) (ap (λ (x : Liste
         bool-cases (headerOk area)
         (λ h. bool-cases (leb (scratchMin area) (length scratch)) (λ k. clash _ _ _ (rw (h, k) at q)) (λ k. clash _ _ _ (rw (h, k) at q)))
         (λ h. clash _ _ _ (rw h at q))
+
+-- and so the answer of listing fits 32 bits
+pub answer-few : (area scratch list : List ℕ) (r : Listed) (a c : List ℕ) → ((judged : Judged area) → lists (listedAnswer r) a c ≡ listSteps area scratch list judged)
+    → (n : ℕ) → r ≡ Listed.Entries n → n ≤ areaMax
+answer-few area scratch list r a c says n e =
+    let t = list-tells area scratch list n a c (judge area) (ap (λ (x : Listed). lists (listedAnswer x) a c) (sym e) ∙ says (judge area)) in
+    omega (arith, t .count, listed-few area (usedOf area) (t .tree) (t .sound), t .sound .front .high, header-max area (t .sound .front .header))
 
 -- what an accepted check says
 pub check-tells : (area scratch after : List ℕ) → ((judged : Judged area) → acceptLeaving after ≡ checkSteps area scratch judged) → (tree : Tree) × Sound area (usedOf area) tree

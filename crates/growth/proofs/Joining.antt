@@ -3,9 +3,8 @@ use Prim.Native.Nat.{ℕ}
 use native.Mathlib.Omega.{arith}
 use mathlib.Core.Path.{_≡_, refl, ap, _∙_}
 use mathlib.Core.List.{List, [], _∷_, _++_}
-use Rattle.layout.specs.Layout.{placeOf}
 use Rattle.sound.specs.Tree.{Entry, Tree, leaf, node}
-use Rattle.sound.specs.Ways.{Dir, toLeft, toBelow, toRight, toward, reached, linkField}
+use Rattle.sound.specs.Ways.{Dir, toLeft, toBelow, toRight, toward, reached}
 use Rattle.growth.specs.Plug.{hang, plug, fieldPlace, linkPlace}
 use Rattle.growth.proofs.Rules.{prefixToward, prefixAt, Placed}
 
@@ -68,20 +67,6 @@ unfolding toward hang
 toward-hang toLeft at name own left below right other = refl
 toward-hang toBelow at name own left below right other = refl
 toward-hang toRight at name own left below right other = refl
-
-prefix-hang : (prefix : List ℕ) (dir : Dir) (at : ℕ) (name : List ℕ) (own : Entry) (left below right other : Tree)
-    → prefixToward prefix dir (hang dir (node at name own left below right) other) ≡ prefixToward prefix dir (node at name own left below right)
-unfolding hang
-prefix-hang prefix toLeft at name own left below right other = refl
-prefix-hang prefix toBelow at name own left below right other = refl
-prefix-hang prefix toRight at name own left below right other = refl
-
-field-hang : (place : ℕ) (dir : Dir) (at : ℕ) (name : List ℕ) (own : Entry) (left below right other : Tree)
-    → fieldPlace place dir (hang dir (node at name own left below right) other) ≡ placeOf at (linkField dir)
-unfolding hang
-field-hang place toLeft at name own left below right other = refl
-field-hang place toBelow at name own left below right other = refl
-field-hang place toRight at name own left below right other = refl
 
 -- it leads to what was put there, by the same link and under the same prefix
 pub reached-plug : (way : List Dir) (tree other : Tree) → Along tree way → reached (plug tree way other) way ≡ other

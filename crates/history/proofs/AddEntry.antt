@@ -22,7 +22,7 @@ use Rattle.sound.proofs.Inside.{inside-below, inside-high, inside-part, inside-
 use Rattle.sound.proofs.Framing.{word-frame}
 use Rattle.growth.specs.Plug.{plug}
 use Rattle.growth.proofs.Rules.{prefixAt, rule-there}
-use Rattle.lookup.proofs.NodeReads.{node-touched, prop-word, own-room, entry-lies}
+use Rattle.finding.proofs.NodeReads.{node-touched, prop-word, own-room, entry-lies}
 use Rattle.history.specs.Lack.{entryNeeds}
 use Rattle.history.specs.History.{upToZero}
 use Rattle.history.proofs.Storing.{Changed, changed-then}

@@ -13,8 +13,8 @@ use Rattle.sound.specs.Tree.{Entry, Tree, leaf, node}
 use Rattle.sound.specs.Sound.{Sound}
 use Rattle.sound.specs.Ways.{Dir, toBelow, reached}
 use Rattle.growth.proofs.Joining.{reached-append}
-use Rattle.lookup.specs.Look.{spot, byNode}
-use Rattle.lookup.proofs.Spelling.{namesTo}
+use Rattle.finding.specs.Look.{spot, byNode}
+use Rattle.finding.proofs.Spelling.{namesTo}
 use Rattle.history.specs.Lack.{fullNumber, missing}
 use Rattle.history.proofs.Stood.{Stood, atRoot, atNode, above, above-names}
 use Rattle.history.proofs.NodeHung.{NameRule, spotAt}

@@ -6,7 +6,7 @@ use mathlib.Core.Path.{_≡_, refl, sym, ap, _∙_}
 use mathlib.Core.Logic.{_≢_}
 use mathlib.Core.List.{List, [], _++_}
 use lib.ListN.{length}
-use Rattle.lookup.specs.Look.{shows}
+use Rattle.finding.specs.Look.{shows}
 use Rattle.names.specs.Names.{segments}
 use Rattle.layout.specs.declared.refusal.Refusal.{Refusal}
 use Rattle.layout.specs.declared.refusal.Verdict.{Verdict}
@@ -21,7 +21,7 @@ use Rattle.sound.specs.Sound.{Sound}
 use Rattle.sound.specs.Ways.{reached}
 use Rattle.growth.specs.Plug.{plug}
 use Rattle.growth.proofs.Rules.{prefixAt}
-use Rattle.lookup.proofs.Spelling.{one-name}
+use Rattle.finding.proofs.Spelling.{one-name}
 use Rattle.history.specs.History.{upToZero}
 use Rattle.history.specs.Lack.{seek, entryOf, missing, entryRooms, entryNeeds, ownLacks, lacks, fullNumber}
 use Rattle.history.proofs.Leading.{names-spelled, finds-own, finds-new, finds-others}

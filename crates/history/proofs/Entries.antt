@@ -16,13 +16,13 @@ use Rattle.sound.specs.Sound.{EntryAt, TreeAt, Has, Sound}
 use Rattle.sound.specs.Ways.{Dir, toLeft, toBelow, toRight, toward, reached}
 use Rattle.growth.proofs.Focus.{reached-at}
 use Rattle.growth.proofs.SoundPut.{topPlace}
-use Rattle.lookup.proofs.FindLook.{find-look}
-use Rattle.lookup.proofs.Spelling.{ownOf}
-use Rattle.lookup.proofs.Promises.{own-found, own-listed}
+use Rattle.finding.proofs.FindLook.{find-look}
+use Rattle.finding.proofs.Spelling.{ownOf}
+use Rattle.finding.proofs.Promises.{own-found, own-listed}
 use Rattle.history.specs.Lack.{entryOf}
 use Rattle.history.proofs.Seeking.{seek-found}
 use Rattle.history.proofs.Leading.{Leads, seek-leads, seek-name}
-use Rattle.lookup.proofs.Spelling.{one-name}
+use Rattle.finding.proofs.Spelling.{one-name}
 
 -- the serial of a node's entry stands in the area
 node-serial : (area : List ℕ) (tree : Tree) (at place serial : ℕ) (segment name : List ℕ) (v : Value) (left below right : Tree) → TreeAt area tree

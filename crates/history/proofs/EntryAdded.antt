@@ -5,7 +5,7 @@ use mathlib.Core.Path.{_≡_}
 use mathlib.Core.List.{List, [], _∷_}
 use lib.ListN.{length}
 use borrow.Author.Tests.{lt-ltb, le-ltb}
-use Rattle.lookup.specs.Look.{shows}
+use Rattle.finding.specs.Look.{shows}
 use Rattle.layout.specs.Layout.{slotSize, lengthUnit, dataSize, entryTakes, valueTakes}
 use Rattle.property_info.specs.Written.{longSerial}
 use Rattle.builder.specs.Steps.{Step, goes, stops}

@@ -16,8 +16,8 @@ use Rattle.sound.proofs.Framing.{stampSize, word-frame, entry-frame, tree-frame
 use Rattle.growth.specs.Plug.{plug, linkPlace}
 use Rattle.growth.proofs.Rules.{prefixAt}
 use Rattle.growth.proofs.SoundPut.{topPlace, front-grown, sound-plug, sound-own}
-use Rattle.lookup.proofs.NodeReads.{Standing, stands-whole, node-lies}
-use Rattle.lookup.proofs.FindLook.{stands-reached}
+use Rattle.finding.proofs.NodeReads.{Standing, stands-whole, node-lies}
+use Rattle.finding.proofs.FindLook.{stands-reached}
 use Rattle.history.proofs.Storing.{Changed}
 use Rattle.history.proofs.NodeLaid.{WordSet, link-set}
 

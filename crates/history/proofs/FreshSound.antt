@@ -15,7 +15,7 @@ use Rattle.property_area.specs.Header.{headerOk}
 use Rattle.builder.specs.Fresh.{fresh}
 use Rattle.sound.specs.Tree.{leaf, link, cover}
 use Rattle.sound.specs.Sound.{TreeAt, TreeRule, Sound}
-use Rattle.lookup.proofs.NodeReads.{part-holds}
+use Rattle.finding.proofs.NodeReads.{part-holds}
 
 -- a word of zeros
 zero-word : (s : List ℕ) (at : ℕ) → ((i : ℕ) → at ≤ i → i < at + wordSize → getD s i 0 ≡ 0) → littleAt wordSize s at ≡ 0

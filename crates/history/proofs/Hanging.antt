@@ -11,7 +11,7 @@ use Rattle.sound.specs.Ways.{Dir, toLeft, toBelow, toRight, toward, reached}
 use Rattle.growth.specs.Plug.{hang, plug}
 use Rattle.growth.proofs.Rules.{prefixAt, Placed}
 use Rattle.growth.proofs.Joining.{Along, along-placed}
-use Rattle.lookup.specs.Look.{turn, spot}
+use Rattle.finding.specs.Look.{turn, spot}
 use Rattle.history.specs.Lack.{seek}
 use Rattle.history.proofs.Seeking.{seek-node}
 

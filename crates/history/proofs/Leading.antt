@@ -14,8 +14,8 @@ use Rattle.sound.specs.Ways.{Dir, toLeft, toBelow, toRight, toward, reached}
 use Rattle.growth.specs.Plug.{hang, plug}
 use Rattle.growth.proofs.Rules.{prefixAt, rule-plug-own}
 use Rattle.growth.proofs.Joining.{Along, along-reached, reached-plug}
-use Rattle.lookup.specs.Look.{turn, spot}
-use Rattle.lookup.proofs.Spelling.{ownOf, namesTo, one-name, spells}
+use Rattle.finding.specs.Look.{turn, spot}
+use Rattle.finding.proofs.Spelling.{ownOf, namesTo, one-name, spells}
 use Rattle.history.specs.Lack.{seek}
 use Rattle.history.proofs.Seeking.{seek-node}
 use Rattle.history.proofs.Owning.{seek-new, seek-others, seek-own}

@@ -8,7 +8,7 @@ use mathlib.Core.List.{List, [], _∷_}
 use mathlib.Core.Option.{Option, none, some}
 use lib.ListN.{length}
 use lib.Dec.{eqb}
-use Rattle.lookup.specs.Look.{shows}
+use Rattle.finding.specs.Look.{shows}
 use Rattle.words.specs.Words.{sameBytes}
 use Rattle.words.proofs.Laws.{bool-cases}
 use Rattle.words.proofs.Promises.{same-eq, same-self}
@@ -26,7 +26,7 @@ use Rattle.updates.specs.Update.{updateSteps}
 use Rattle.sound.specs.Tree.{Value, short, Entry, bare, entry, Tree, node}
 use Rattle.sound.specs.Sound.{Sound}
 use Rattle.growth.specs.Plug.{plug}
-use Rattle.lookup.proofs.Promises.{find-refusals}
+use Rattle.finding.proofs.Promises.{find-refusals}
 use Rattle.history.specs.History.{Op, add, update, call, numberIn, bytesIn, upToZero, opName, hear, heeded, sizeIn, roomsIn, opRooms}
 use Rattle.history.specs.Lack.{seek, entryOf, fullNumber}
 use Rattle.history.proofs.Rooms.{full-number}

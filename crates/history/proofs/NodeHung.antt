@@ -24,7 +24,7 @@ use Rattle.growth.proofs.Cover.{link-cover}
 use Rattle.growth.proofs.Rules.{prefixAt, reached-rule, rule-hang}
 use Rattle.growth.proofs.Joining.{plug-append}
 use Rattle.growth.proofs.SoundPut.{topPlace, front-grown, sound-plug}
-use Rattle.lookup.specs.Look.{spot}
+use Rattle.finding.specs.Look.{spot}
 use Rattle.history.specs.Lack.{fullNumber}
 use Rattle.history.proofs.NodeLaid.{WordSet, link-set, NodeLaid, node-laid}
 use Rattle.history.proofs.Rooms.{room-given, room-full}

@@ -21,7 +21,8 @@ use Rattle.builder.specs.Add.{nameVerdict, addSteps}
 use Rattle.updates.specs.Update.{updateSteps}
 use Rattle.sound.specs.Tree.{Value, short, long, bare, entry, Tree}
 use Rattle.sound.specs.Sound.{Sound}
-use Rattle.history.specs.History.{Op, add, update, call, numberIn, bytesIn, shown, opName, heeded, asShown, Shows, roomsIn, opRooms}
+use Rattle.property_area.specs.Lookup.{shown}
+use Rattle.history.specs.History.{Op, add, update, call, numberIn, bytesIn, opName, heeded, asShown, Shows, roomsIn, opRooms}
 use Rattle.history.specs.Lack.{seek, entryOf, lacks}
 use Rattle.history.proofs.Rooms.{which-number}
 use Rattle.history.proofs.Leading.{finds-own}

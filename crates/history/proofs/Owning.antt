@@ -12,7 +12,7 @@ use Rattle.sound.specs.Tree.{Entry, Tree, leaf, node}
 use Rattle.sound.specs.Sound.{Side, TreeRule}
 use Rattle.sound.specs.Ways.{Dir, toLeft, toBelow, toRight, toward, reached}
 use Rattle.growth.specs.Plug.{hang, plug}
-use Rattle.lookup.proofs.Spelling.{namesTo}
+use Rattle.finding.proofs.Spelling.{namesTo}
 use Rattle.history.specs.Lack.{seek}
 use Rattle.history.proofs.Seeking.{seek-node}
 use Rattle.history.proofs.Hanging.{seek-alike}

@@ -22,11 +22,12 @@ use Rattle.sound.specs.Tree.{Value, Entry, bare, entry, Tree, leaf, listed}
 use Rattle.sound.specs.Sound.{Has, Sound}
 use Rattle.sound.specs.Ways.{reached}
 use Rattle.sound.proofs.Promises.{one-tree, one-mark}
-use Rattle.lookup.specs.Look.{walkCost, spot, look}
-use Rattle.lookup.proofs.Promises.{find-cost, walk-bound, own-found}
+use Rattle.finding.specs.Look.{walkCost, spot, look}
+use Rattle.finding.proofs.Promises.{find-cost, walk-bound, own-found}
 use Rattle.audit.specs.Check.{Judged, blank, scratchMin, checkSteps, lists, listSteps}
 use Rattle.audit.proofs.Promises.{check-accepts, list-accepts}
-use Rattle.history.specs.History.{Op, call, numberIn, after, shown, told, asShown, Shows, updateSizes, given}
+use Rattle.property_area.specs.Lookup.{shown}
+use Rattle.history.specs.History.{Op, call, numberIn, after, told, asShown, Shows, updateSizes, given}
 use Rattle.history.specs.Lack.{seek, entryOf}
 use Rattle.history.proofs.FreshSound.{fresh-sound}
 use Rattle.history.proofs.Entries.{serial-read, entry-found, entry-listed, found-entry, listed-held}

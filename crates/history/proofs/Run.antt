@@ -13,7 +13,8 @@ use Rattle.layout.specs.Refusals.{accepted, refuse}
 use Rattle.counters.specs.Distance.{serialAfter}
 use Rattle.sound.specs.Tree.{Entry, bare, entry, Tree}
 use Rattle.sound.specs.Sound.{Sound}
-use Rattle.history.specs.History.{Op, call, bytesIn, after, shown, hear, heeded, told, asShown, Shows, sizeIn, updateSizes, opRooms, given}
+use Rattle.property_area.specs.Lookup.{shown}
+use Rattle.history.specs.History.{Op, call, bytesIn, after, hear, heeded, told, asShown, Shows, sizeIn, updateSizes, opRooms, given}
 use Rattle.history.specs.Lack.{entryOf}
 use Rattle.history.proofs.Showing.{shown-some, shown-none}
 use Rattle.history.proofs.Next.{Matches, Lasts, next}

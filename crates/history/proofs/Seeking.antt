@@ -17,7 +17,7 @@ use Rattle.property_area.specs.Find.{hit}
 use Rattle.builder.specs.Add.{anyEmpty}
 use Rattle.sound.specs.Tree.{Value, Entry, bare, entry, Tree, leaf, node}
 use Rattle.sound.specs.Ways.{toLeft, toRight, toward, reached}
-use Rattle.lookup.specs.Look.{turn, spot, compares, ownAnswer, byNode, look, costs}
+use Rattle.finding.specs.Look.{turn, spot, compares, ownAnswer, byNode, look, costs}
 use Rattle.history.specs.Lack.{seek}
 
 -- one node of the search

@@ -22,10 +22,10 @@ use Rattle.growth.specs.Plug.{plug, linkPlace}
 use Rattle.growth.proofs.Focus.{reached-at}
 use Rattle.growth.proofs.Joining.{reached-append, link-append, Along, along-reached, along-append, reached-plug}
 use Rattle.growth.proofs.SoundPut.{topPlace}
-use Rattle.lookup.specs.Look.{turn, spot, compares}
-use Rattle.lookup.proofs.NodeReads.{Standing, node-lies}
-use Rattle.lookup.proofs.Searching.{linkOffset, endsAt, searchEnd, search-siblings, segment-siblings}
-use Rattle.lookup.proofs.LookWays.{spot-named}
+use Rattle.finding.specs.Look.{turn, spot, compares}
+use Rattle.finding.proofs.NodeReads.{Standing, node-lies}
+use Rattle.finding.proofs.Searching.{linkOffset, endsAt, searchEnd, search-siblings, segment-siblings}
+use Rattle.finding.proofs.LookWays.{spot-named}
 use Rattle.history.specs.Lack.{fullNumber}
 use Rattle.history.proofs.Hanging.{spot-along}
 use Rattle.history.proofs.Stood.{Stood, atNode, stood-along, stood-place, stands-at, stood-touched, above, above-append, above-plug}

@@ -12,13 +12,13 @@ use Rattle.property_area.specs.Find.{Hit, hit}
 use Rattle.sound.specs.Tree.{Value, bare, entry, Tree}
 use Rattle.sound.specs.Sound.{Sound}
 use Rattle.sound.specs.Ways.{reached}
-use Rattle.lookup.specs.Look.{look, costs, shows}
-use Rattle.lookup.proofs.FindLook.{find-look}
-use Rattle.lookup.proofs.Spelling.{ownOf, one-name}
-use Rattle.lookup.proofs.Costs.{Counts, look-counts}
-use Rattle.lookup.proofs.Promises.{own-found, value-shown}
+use Rattle.finding.specs.Look.{look, costs, shows}
+use Rattle.finding.proofs.FindLook.{find-look}
+use Rattle.finding.proofs.Spelling.{ownOf, one-name}
+use Rattle.finding.proofs.Costs.{Counts, look-counts}
+use Rattle.finding.proofs.Promises.{own-found, value-shown}
 use Rattle.history.specs.Lack.{entryOf}
-use Rattle.history.specs.History.{shown}
+use Rattle.property_area.specs.Lookup.{shown}
 use Rattle.history.proofs.Seeking.{seek-found}
 use Rattle.history.proofs.Leading.{seek-leads, seek-name}
 

@@ -11,9 +11,9 @@ use Rattle.growth.specs.Plug.{hang, plug, linkPlace}
 use Rattle.growth.proofs.Rules.{prefixAt, rule-plug-below}
 use Rattle.growth.proofs.Joining.{plug-append, link-append, prefix-append, Along, along-reached, along-append}
 use Rattle.growth.proofs.SoundPut.{topPlace}
-use Rattle.lookup.proofs.NodeReads.{Standing, stands-whole, node-touched}
-use Rattle.lookup.proofs.FindLook.{stands-reached, root-parent}
-use Rattle.lookup.proofs.Spelling.{namesTo}
+use Rattle.finding.proofs.NodeReads.{Standing, stands-whole, node-touched}
+use Rattle.finding.proofs.FindLook.{stands-reached, root-parent}
+use Rattle.finding.proofs.Spelling.{namesTo}
 
 -- the siblings below the root are the whole tree
 pub data Stood (tree : Tree) : List Dir → ℕ → Type 0 where

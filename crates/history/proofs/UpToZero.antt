@@ -12,7 +12,7 @@ use Rattle.words.proofs.Laws.{first-high}
 use Rattle.words.proofs.Promises.{first-none, first-there}
 use Rattle.sound.specs.Sound.{Holds, HoldsText, Has, Without}
 use Rattle.sound.proofs.Holding.{text-bytes, text-zero, text-holds}
-use Rattle.lookup.proofs.NodeReads.{part-holds, first-zero}
+use Rattle.finding.proofs.NodeReads.{part-holds, first-zero}
 use Rattle.history.specs.History.{upToZero}
 
 module _ (bs : List ℕ) where

@@ -21,9 +21,9 @@ use Rattle.sound.specs.Ways.{Dir, reached}
 use Rattle.growth.specs.Plug.{plug}
 use Rattle.growth.proofs.Rules.{prefixAt, rule-there}
 use Rattle.growth.proofs.SoundPut.{sound-slot}
-use Rattle.lookup.proofs.NodeReads.{Standing, entry-lies, own-room}
-use Rattle.lookup.proofs.Spelling.{ownOf}
-use Rattle.lookup.proofs.Promises.{found-own}
+use Rattle.finding.proofs.NodeReads.{Standing, entry-lies, own-room}
+use Rattle.finding.proofs.Spelling.{ownOf}
+use Rattle.finding.proofs.Promises.{found-own}
 use Rattle.history.specs.History.{upToZero}
 use Rattle.history.proofs.Updated.{ShortUpdated, is-short, update-tests, updated}
 use Rattle.history.proofs.EntryHung.{node-stands}

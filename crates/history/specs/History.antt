@@ -7,11 +7,9 @@ use mathlib.Core.List.{List, [], _∷_, _++_}
 use mathlib.Core.Option.{Option, none, some}
 use lib.ListN.{length, take}
 use lib.Dec.{eqb}
-use Rattle.words.specs.Words.{part, firstIn, sameBytes}
+use Rattle.words.specs.Words.{firstIn, sameBytes}
 use Rattle.layout.specs.declared.refusal.Refusal.{Refusal}
 use Rattle.layout.specs.Refusals.{Answer, accepted, refused, refuse, noRefusal, Outcome, leaves}
-use Rattle.property_area.specs.Find.{Hit, hit, findSteps}
-use Rattle.property_area.specs.Value.{Part, bytes, valueSteps}
 use Rattle.builder.specs.Steps.{Step, goes, stops, outcome}
 use Rattle.builder.specs.Add.{addSteps}
 use Rattle.updates.specs.Update.{updateSteps}
@@ -37,19 +35,7 @@ unfoldable pub after : List ℕ → List Op → List ℕ
 after area [] = area
 after area (op ∷ ops) = after (bytesIn (call area op)) ops
 
--- ---- what a lookup shows: find, then value
-abbrev pub shownPart : List ℕ → Answer Part → Answer (List ℕ)
-shownPart area (accepted (bytes from to)) = accepted (part area from to)
-shownPart area (refused number) = refused number
-
-abbrev pub shownHit : List ℕ → Answer Hit → Answer (List ℕ)
-shownHit area (accepted (hit at compared)) = shownPart area (valueSteps area at)
-shownHit area (refused number) = refused number
-
-unfoldable pub shown : List ℕ → List ℕ → Answer (List ℕ)
-shown area name = shownHit area (findSteps area name)
-
--- ---- what it ought to show: the value of a name's last accepted update, or else of its first accepted add, up to its first zero byte
+-- ---- what a lookup (`shown`) ought to show: the value of a name's last accepted update, or else of its first accepted add, up to its first zero byte
 abbrev pub upToZero : List ℕ → List ℕ
 upToZero value = take (firstIn 0 value 0 (length value)) value
 

@@ -11,7 +11,7 @@ use Rattle.layout.specs.Layout.{wordMax, slotSize, nodeTakes, entryTakes, value
 use Rattle.layout.specs.Refusals.{numberOf}
 use Rattle.sound.specs.Tree.{Entry, bare, entry, Tree, leaf}
 use Rattle.sound.specs.Ways.{reached}
-use Rattle.lookup.specs.Look.{spot, byNode}
+use Rattle.finding.specs.Look.{spot, byNode}
 
 -- the entry that a path of segments leads to, from a node with its own entry and what hangs below it; bare if there is none
 unfoldable pub seek : List (List ℕ) → Entry → Tree → Entry

@@ -17,26 +17,26 @@ use Rattle.property_info.proofs.Promises.{value-lies}
 use Rattle.property_area.proofs.HeaderLaws.{header-max}
 use Rattle.property_area.specs.declared.values.Shown.{Shown}
 use Rattle.property_area.specs.Header.{headerOk}
-use Rattle.property_area.specs.Value.{bytes, shownAnswer, bySpan, valueSteps, partOf}
+use Rattle.property_area.specs.Value.{bytes, shownAnswer, bySpan, partSteps, valueSteps, partOf}
 
-module _ (area : List ℕ) (offset : ℕ) where
-  pub value-header : headerOk area ≡ false → refuse Refusal.BadHeader ≡ valueSteps area offset
-  unfolding valueSteps
-  value-header h = rw h
+module _ (area : List ℕ) (offset : ℕ) (span : Span) where
+  pub part-header : headerOk area ≡ false → refuse Refusal.BadHeader ≡ partSteps area offset span
+  unfolding partSteps
+  part-header h = rw h
 
   module _ (h : headerOk area ≡ true) where
-    pub value-out : entryOk area offset ≡ false → refuse Refusal.Damaged ≡ valueSteps area offset
-    unfolding valueSteps
-    value-out t = rw (h, t)
+    pub part-out : entryOk area offset ≡ false → refuse Refusal.Damaged ≡ partSteps area offset span
+    unfolding partSteps
+    part-out t = rw (h, t)
 
-    module _ (t : entryOk area offset ≡ true) (s : Span) (e : s ≡ valueOf area offset) where
-      pub value-bytes : (from to : ℕ) → s ≡ Span.Bytes from to → accepted (bytes from to) ≡ valueSteps area offset
-      unfolding valueSteps
-      value-bytes from to f = rw (h, t, ← e, f)
+    module _ (t : entryOk area offset ≡ true) (s : Span) (e : s ≡ span) where
+      pub part-bytes : (from to : ℕ) → s ≡ Span.Bytes from to → accepted (bytes from to) ≡ partSteps area offset span
+      unfolding partSteps
+      part-bytes from to f = rw (h, t, ← e, f)
 
-      pub value-broken : s ≡ Span.Broken → refuse Refusal.Damaged ≡ valueSteps area offset
-      unfolding valueSteps
-      value-broken f = rw (h, t, ← e, f)
+      pub part-broken : s ≡ Span.Broken → refuse Refusal.Damaged ≡ partSteps area offset span
+      unfolding partSteps
+      part-broken f = rw (h, t, ← e, f)
 
 -- ---- a value that is shown is a part of an area that is not too long
 pub record ShownIn (area : List ℕ) (from to : ℕ) : Type 0 where
@@ -52,7 +52,7 @@ span-of (Span.Bytes a b) from to h =
 span-of Span.Broken from to h = absurd (let q : _≡_ {A = ℕ} 0 1 = cc in omega arith)
 
 pub accepted-in : (area : List ℕ) (offset from to : ℕ) → valueSteps area offset ≡ accepted (bytes from to) → ShownIn area from to
-unfolding valueSteps
+unfolding partSteps
 accepted-in area offset from to e =
     bool-cases (headerOk area)
     (λ h. bool-cases (entryOk area offset)

@@ -1,4 +1,4 @@
--- Value (document 01): of the entry at an offset.
+-- Value (document 01): of the entry at an offset; and its name.
 use Prim.Native.Nat.{ℕ}
 use mathlib.Core.Bool.{cond}
 use mathlib.Core.List.{List, []}
@@ -7,7 +7,7 @@ use Rattle.layout.specs.declared.refusal.Refusal.{Refusal}
 use Rattle.layout.specs.declared.text.Span.{Span}
 use Rattle.layout.specs.Refusals.{Answer, accepted, refused, refuse}
 use Rattle.layout.specs.Layout.{entryOk}
-use Rattle.property_info.specs.Entry.{valueOf}
+use Rattle.property_info.specs.Entry.{nameOf, valueOf}
 use Rattle.property_area.specs.Header.{headerOk}
 use Rattle.property_area.specs.declared.values.Shown.{Shown}
 
@@ -25,10 +25,18 @@ abbrev pub bySpan : Span → Answer Part
 bySpan (Span.Bytes from to) = accepted (bytes from to)
 bySpan Span.Broken = refuse Refusal.Damaged
 
--- 8; the entry is touched (5); then what it shows
-unfoldable pub valueSteps : List ℕ → ℕ → Answer Part
-valueSteps area offset =
-    cond (headerOk area) (cond (entryOk area offset) (bySpan (valueOf area offset)) (refuse Refusal.Damaged)) (refuse Refusal.BadHeader)
+-- 8; the entry is touched (5); then a text of it
+unfoldable pub partSteps : List ℕ → ℕ → Span → Answer Part
+partSteps area offset span =
+    cond (headerOk area) (cond (entryOk area offset) (bySpan span) (refuse Refusal.Damaged)) (refuse Refusal.BadHeader)
+
+-- what it shows
+abbrev pub valueSteps : List ℕ → ℕ → Answer Part
+valueSteps area offset = partSteps area offset (valueOf area offset)
+
+-- its name
+abbrev pub nameSteps : List ℕ → ℕ → Answer Part
+nameSteps area offset = partSteps area offset (nameOf area offset)
 
 -- that part; none where it is refused
 abbrev pub partOf : List ℕ → Answer Part → List ℕ

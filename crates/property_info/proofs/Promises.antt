@@ -34,13 +34,15 @@ lies-short area at from to h e =
       high = omega (arith, first-high 0 area (placeOf at slotField) slotSize);
     }
 
+lies-text : (area : List ℕ) (start from to : ℕ) → textFrom area start ≡ Bytes from to → Lies area from to
+lies-text area start from to e =
+    let s = text-stands area start (length area - start) from to e in
+    record { low = s .low; high = omega (arith, s .high, s .within) }
+
 lies-behind : (area : List ℕ) (at relative from to : ℕ) (name : Span) → behindName area at relative name ≡ Bytes from to → Lies area from to
 lies-behind area at relative from to (Bytes a b) e =
     bool-cases (leb (roundUp4 (entrySize + (b - a) + 1)) relative)
-    (λ t.
-    let k : textFrom area (placeOf at relative) ≡ Bytes from to = rw t at e in
-    let s = text-stands area (placeOf at relative) (length area - placeOf at relative) from to k in
-    record { low = s .low; high = omega (arith, s .high, s .within) })
+    (λ t. lies-text area (placeOf at relative) from to (rw t at e))
     (λ t. let k : Broken ≡ Bytes from to = rw t at e in absurd (let q : _≡_ {A = ℕ} 0 1 = cc in omega arith))
 lies-behind area at relative from to Broken e = absurd (let q : _≡_ {A = ℕ} 0 1 = cc in omega arith)
 
@@ -50,6 +52,11 @@ value-lies area at from to h e =
     bool-cases (isLong area at)
     (λ t. lies-behind area at (wordAt area at longOffsetField) from to (nameOf area at) (value-long area at t ∙ e))
     (λ t. lies-short area at from to h (value-short area at t ∙ e))
+
+-- ---- so is a name
+pub name-lies : (area : List ℕ) (at from to : ℕ) → nameOf area at ≡ Bytes from to → Lies area from to
+unfolding nameOf
+name-lies area at from to e = lies-text area (placeOf at entrySize) from to e
 
 -- ---- a short value has no zero in it
 pub short-whole : (area : List ℕ) (at from to j : ℕ) → shortValue area at ≡ Bytes from to → from ≤ j → j < to → getD area j 0 ≡ 0 → ⊥

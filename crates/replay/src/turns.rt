@@ -1,7 +1,7 @@
 // One record, replayed and compared.
 ghost use mathlib.Core.Path.{_≡_};
 ghost use lib.ListN.{length};
-ghost use Rattle.replay.specs.Records.{Lies, areaSize};
+ghost use Rattle.replay.specs.Records.{Lies};
 ghost use Rattle.replay.specs.Turns.{agrees, compares, compare, playRecord, turns, turnOn, turnAt};
 use crate::checksum::adler32;
 use crate::records::Parts;

@@ -14,7 +14,7 @@ use Rattle.property_info.specs.Written.{shortStores, longStores, message, write
 use Rattle.property_area.specs.Header.{headerOk}
 use Rattle.property_area.specs.Trie.{visitNode, searchFrom, segmentSteps}
 use Rattle.property_area.specs.Find.{propSteps, findFrom, findSteps}
-use Rattle.property_area.specs.Value.{valueSteps, partOf}
+use Rattle.property_area.specs.Value.{partSteps, valueSteps, partOf}
 use Rattle.builder.specs.Steps.{outcome}
 use Rattle.builder.specs.Fresh.{fresh}
 use Rattle.builder.specs.Allocate.{allocate}
@@ -86,7 +86,7 @@ pub record Table : Type 0 where
   pub dots-a : findSteps (bytesIn (oneName 364 (120 ∷ []))) a-b ≡ refused 2
 
 pub settled : Table
-unfolding littleAt littleBytes firstIn sameBytes put run byteStores segments segmentOrder byteOrder touch textIn isLong shortValue nameOf longValue valueOf updatedSerial shortStores longStores message writeStores headerOk visitNode searchFrom segmentSteps propSteps findFrom findSteps valueSteps fresh allocate nodeStores newNode hangNode addNode addSegment addPath layEntry longEntry newEntry addEntry anyEmpty nameVerdict addSteps valueVerdict updateStores updateEntry updateSteps
+unfolding littleAt littleBytes firstIn sameBytes put run byteStores segments segmentOrder byteOrder touch textIn isLong shortValue nameOf longValue valueOf updatedSerial shortStores longStores message writeStores headerOk visitNode searchFrom segmentSteps propSteps findFrom findSteps partSteps fresh allocate nodeStores newNode hangNode addNode addSegment addPath layEntry longEntry newEntry addEntry anyEmpty nameVerdict addSteps valueVerdict updateStores updateEntry updateSteps
 settled =
     record {
       at-364 = refl;

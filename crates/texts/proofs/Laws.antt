@@ -105,6 +105,16 @@ module _ (out : List ℕ) (at : ℕ) where
       let l : length after ≡ length out = rw p (put-length out at text) in
       (omega arith, l)
 
+-- nothing said
+pub said-none : (out : List ℕ) (at : ℕ) → at ≤ length out → saying at out ≡ said out at []
+unfolding said put
+said-none out at h = let m : at ≡ min (at + 0) (length out) = omega arith in ap (λ z. saying z out) m
+
+-- one text, then another from the next place on
+pub said-then : (out : List ℕ) (at : ℕ) (a b : List ℕ) {next last : ℕ} {after end : List ℕ} → saying next after ≡ said out at a → saying last end ≡ said after next b
+    → saying last end ≡ said out at (a ++ b)
+said-then out at a b {next} {last} {after} {end} e f = f ∙ said-append out at a b next after e
+
 -- ---- a turn of escaping: a place past the end is the end; one byte more; none left
 pub put-front : (s : List ℕ) (at : ℕ) (bs : List ℕ) → at + length bs ≤ length s → take (at + length bs) (put s at bs) ≡ take at s ++ bs
 unfolding put
@@ -113,7 +123,7 @@ put-front s at (b ∷ bs) h =
     let e : at + suc (length bs) ≡ at + 1 + length bs = omega arith in
     rw e (put-front (set s at b) (at + 1) bs (simp length-set (omega arith)) ∙ rw (add-one, take-suc-set s at b (omega arith)) (append-snoc (take at s) b bs))
 
-byte-few : (b : ℕ) → length (escapedByte b) ≤ 4
+pub byte-few : (b : ℕ) → length (escapedByte b) ≤ 4
 unfolding escapedByte
 byte-few b = bool-cases (isShown b) (λ t. rw t (omega arith)) (λ t. rw t (omega arith))
 
@@ -144,10 +154,8 @@ module _ (text out : List ℕ) (next : ℕ) where
   said-byte taken h n after bytes e f = rw (drop-cons text taken 0 h, add-one) (sym (said-append out next (escapedByte (getD text taken 0)) (escaped (drop (suc taken) text)) n after (rw e at f)))
 
   pub said-end : (taken : ℕ) → length text ≤ taken → next ≤ length out → saying next out ≡ said out next (escaped (drop taken text))
-  unfolding said escaped put
-  said-end taken h k =
-      let m : next ≡ min (next + 0) (length out) = omega arith in
-      rw (drop-of-length-le text {i = taken} h) (ap (λ z. saying z out) m)
+  unfolding escaped
+  said-end taken h k = rw (drop-of-length-le text {i = taken} h) (said-none out next k)
 
 -- ---- a piece, as far as it fits
 take-min : (k n : ℕ) (s : List ℕ) → take k (take n s) ≡ take (min n k) s

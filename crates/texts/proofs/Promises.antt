@@ -1,25 +1,59 @@
--- What texts promise: a text escaped piece by piece, where a text then stands, what a line has, no second outcome.
-use Prim.Native.Nat.{ℕ, _+_, _-_, min, _≤_, _<_}
+-- What texts promise: a text escaped piece by piece, how long texts are, what the digits of a number mean, where a text then stands, what a line has, no second outcome.
+use Prim.Native.Nat.{ℕ, zero, suc, _+_, _-_, _*_, _/_, _%_, _^_, min, _≤_, _<_}
 use mathlib.Core.Path.{_≡_, refl, sym, _∙_}
 use mathlib.Core.Bool.{Bool, true, false}
 use mathlib.Core.List.{List, [], _∷_, _++_, append-assoc}
+use native.Mathlib.Nat.{pow-suc, div-lt-iff-lt-mul}
 use native.Mathlib.Omega.{arith}
 use borrow.Author.Tests.{ltb-true, ltb-false}
 use lib.Dec.{ltb}
-use lib.ListN.{length, getD, take, length-take}
+use lib.ListN.{length, getD, take, length-append, length-take}
 use lib.Seq.{length-take-le, take-append-add}
 use Rattle.words.specs.Words.{part, put}
-use Rattle.words.proofs.Laws.{first-low, first-high}
+use Rattle.words.proofs.Laws.{bool-cases, put-length, first-low, first-high}
 use Rattle.words.proofs.Promises.{first-there}
-use Rattle.texts.specs.Text.{escapedByte, escaped, saying, said, lineFeed, pieceEnd, fed, feedFrom, feed}
+use Rattle.texts.specs.Text.{escapedByte, escaped, digit, decimalIn, saying, said, lineFeed, pieceEnd, fed, feedFrom, feed}
 use Rattle.texts.specs.declared.Piece.{Piece}
-use Rattle.texts.proofs.Laws.{put-front}
+use Rattle.texts.proofs.Laws.{put-front, byte-few}
 
 -- ---- a text escaped piece by piece is the text escaped
 pub escaped-append : (a b : List ℕ) → escaped (a ++ b) ≡ escaped a ++ escaped b
 unfolding escaped
 escaped-append [] b = refl
 escaped-append (x ∷ a) b = rw (escaped-append a b) (sym (append-assoc (escapedByte x) (escaped a) (escaped b)))
+
+-- ---- a byte escapes to at most four, and a number has no more digits than it is given
+pub escaped-few : (text : List ℕ) → length (escaped text) ≤ 4 * length text
+unfolding escaped
+escaped-few [] = omega arith
+escaped-few (b ∷ bs) = omega (arith, length-append (escapedByte b) (escaped bs), byte-few b, escaped-few bs)
+
+pub decimal-few : (k n : ℕ) → length (decimalIn k n) ≤ k
+unfolding decimalIn
+decimal-few zero n = omega arith
+decimal-few (suc more) n =
+    bool-cases (ltb n 10)
+    (λ t. rw t (omega arith))
+    (λ t. rw (t, length-append) (omega (arith, decimal-few more (n / 10))))
+
+-- ---- what the digits mean: read as a number, behind what was read before, they are the number
+abbrev pub readFrom : ℕ → List ℕ → ℕ
+readFrom got [] = got
+readFrom got (d ∷ ds) = readFrom (10 * got + (d - 48)) ds
+
+read-append : (got : ℕ) (a b : List ℕ) → readFrom got (a ++ b) ≡ readFrom (readFrom got a) b
+read-append got [] b = refl
+read-append got (d ∷ a) b = read-append (10 * got + (d - 48)) a b
+
+pub decimal-reads : (k n : ℕ) → n < 10 ^ k → readFrom 0 (decimalIn k n) ≡ n
+unfolding decimalIn
+decimal-reads zero n h = omega arith
+decimal-reads (suc k) n h =
+    bool-cases (ltb n 10)
+    (λ t. rw t (omega arith))
+    (λ t.
+    let few : n / 10 < 10 ^ k = div-lt-iff-lt-mul {k = 10} (omega arith) .1 (rw pow-suc at h) in
+    rw (t, read-append 0 (decimalIn k (n / 10)) (digit (n % 10) ∷ []), decimal-reads k (n / 10) few) (omega arith))
 
 -- ---- a text in a buffer: where it fits it stands there whole, behind what stood before it; another text goes on from there (`said-append`)
 pub said-stands : (out : List ℕ) (at : ℕ) (text : List ℕ) (next : ℕ) (after : List ℕ) → saying next after ≡ said out at text → at + length text ≤ length out
@@ -45,15 +79,18 @@ fit-front line have piece h =
 
 module _ (input : List ℕ) (from : ℕ) (line : List ℕ) (have : ℕ) where
   module _ (has next : ℕ) (ended : Bool) (out : List ℕ) (e : fed has next ended out ≡ feed input from line have) where
-    -- a line has no more than its length, and the input goes on within itself
-    pub feed-fits : (has ≤ length line) × (next ≤ length input)
+    -- a line has no more than its length, which stays, and the input goes on within itself
+    pub feed-fits : (has ≤ length out) × (length out ≡ length line) × (next ≤ length input)
     unfolding feed
     feed-fits =
         let start : ℕ = min from (length input) in
         let had : ℕ = min have (length line) in
-        let n : has ≡ had + min (length (part input start (pieceEnd input start))) (length line - had) = cc in
+        let piece : List ℕ = part input start (pieceEnd input start) in
+        let o : out ≡ put line had (take (length line - had) piece) = cc in
+        let l : length out ≡ length line = rw o (put-length line had (take (length line - had) piece)) in
+        let n : has ≡ had + min (length piece) (length line - had) = cc in
         let m : next ≡ min (pieceEnd input start + 1) (length input) = cc in
-        (omega arith, omega arith)
+        (omega arith, l, omega arith)
 
     module _ (f : from ≤ length input) (h : have ≤ length line) where
       fed-from : fed has next ended out ≡ feedFrom input from line have

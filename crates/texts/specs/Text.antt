@@ -1,5 +1,5 @@
--- What the programs print and read (document 01, the dump and the lookup): bytes escaped, a text put into a buffer, a line put together from pieces.
-use Prim.Native.Nat.{ℕ, _+_, _-_, _/_, _%_, min}
+-- What the programs print and read (document 01, the dump and the lookup): bytes escaped, numbers, a text put into a buffer, a line put together from pieces.
+use Prim.Native.Nat.{ℕ, zero, suc, _+_, _-_, _/_, _%_, min}
 use mathlib.Core.Bool.{Bool, cond, not, _&&_}
 use mathlib.Core.List.{List, [], _∷_, _++_}
 use lib.ListN.{length, take}
@@ -13,9 +13,13 @@ backslash = 92
 abbrev pub isShown : ℕ → Bool
 isShown b = leb 0x20 b && leb b 0x7e && not (eqb b backslash)
 
--- 0 to 9, then a to f
+-- 0 to 9
+abbrev pub digit : ℕ → ℕ
+digit d = 48 + d
+
+-- then a to f
 abbrev pub hexDigit : ℕ → ℕ
-hexDigit d = cond (ltb d 10) (48 + d) (87 + d)
+hexDigit d = cond (ltb d 10) (digit d) (87 + d)
 
 unfoldable pub escapedByte : ℕ → List ℕ
 escapedByte b = cond (isShown b) (b ∷ []) (backslash ∷ 120 ∷ hexDigit (b / 16) ∷ hexDigit (b % 16) ∷ [])
@@ -23,6 +27,19 @@ escapedByte b = cond (isShown b) (b ∷ []) (backslash ∷ 120 ∷ hexDigit (b /
 unfoldable pub escaped : List ℕ → List ℕ
 escaped [] = []
 escaped (b ∷ bs) = escapedByte b ++ escaped bs
+
+-- ---- numbers of 64 bits print in decimal, with no zero in front
+-- in so many digits at most
+unfoldable pub decimalIn : ℕ → ℕ → List ℕ
+decimalIn zero n = []
+decimalIn (suc more) n = cond (ltb n 10) (digit n ∷ []) (decimalIn more (n / 10) ++ digit (n % 10) ∷ [])
+
+-- they need no more
+abbrev pub digitsMax : ℕ
+digitsMax = 20
+
+abbrev pub decimal : ℕ → List ℕ
+decimal n = decimalIn digitsMax n
 
 -- ---- a text goes into a buffer from a place on; what would stand behind the buffer's end is dropped: the next place, the buffer
 pub data Said : Type 0 where
@@ -38,11 +55,11 @@ lineFeed = 10
 abbrev pub pieceEnd : List ℕ → ℕ → ℕ
 pieceEnd input from = firstIn lineFeed input from (length input - from)
 
--- it is put behind what the line has; what does not fit is dropped, and the line is then full
+-- bytes that the line has, where the input goes on, whether the line has ended, the line
 pub data Fed : Type 0 where
   fed : ℕ → ℕ → Bool → List ℕ → Fed
 
--- bytes that the line has, where the input goes on, whether the line has ended, the line
+-- the piece is put behind what the line has; what does not fit is dropped, and the line is then full
 abbrev pub feedPiece : List ℕ → ℕ → List ℕ → ℕ → List ℕ → Fed
 feedPiece input end line have piece =
     fed (have + min (length piece) (length line - have)) (min (end + 1) (length input)) (ltb end (length input)) (put line have (take (length line - have) piece))

@@ -1,9 +1,9 @@
-// The text of the programs, as functions on slices: escaped bytes, and a line put together from pieces.
+// The text of the programs, as functions on slices: escaped bytes, numbers, and a line put together from pieces.
 ghost use mathlib.Core.Path.{_≡_};
-ghost use Prim.Native.Nat.{_+_, _≤_, _<_, min};
+ghost use Prim.Native.Nat.{_+_, _%_, _≤_, _<_, min};
 ghost use lib.ListN.{length};
 ghost use Rattle.words.specs.Words.{put};
-ghost use Rattle.texts.specs.Text.{isShown, hexDigit, escapedByte, escaped, saying, said, fed, feed};
+ghost use Rattle.texts.specs.Text.{isShown, digit, hexDigit, escapedByte, escaped, decimal, saying, said, fed, feed};
 
 // Whether a byte prints as it is.
 fn is_shown(b: u8) -> bool
@@ -67,6 +67,29 @@ pub fn say_escaped(out: &mut [u8], at: usize, text: &[u8]) -> usize
         taken += 1;
     }
     next
+}
+
+// The last decimal digit of a number.
+fn last_digit(n: usize) -> u8
+    ensures { λ r. ⌜ r ≡ digit (n % 10) ⌝ }
+{
+    48 + (n % 10) as u8
+}
+
+// The same for a number, in decimal. Its digits are found from the last one on.
+pub fn say_number(out: &mut [u8], at: usize, n: usize) -> usize
+    ensures { λ r. ⌜ saying r (now (out .exit)) ≡ said (now (out .entry)) at (decimal n) ⌝ }
+{
+    let mut digits = [0u8; 20];
+    let mut from = 19;
+    let mut rest = n;
+    digits[from] = last_digit(rest);
+    while 10 <= rest {
+        rest = rest / 10;
+        from -= 1;
+        digits[from] = last_digit(rest);
+    }
+    say(out, at, &digits[from..])
 }
 
 // What became of a piece of input: bytes that the line has, where the input goes on, whether the line has ended.

@@ -3,7 +3,7 @@ use mathlib.Core.Path.{sym, _∙_}
 use borrow.Author.Tests.{not-true, not-false}
 use Rattle.layout.specs.Layout.{entrySize}
 use Rattle.layout.proofs.Laws.{touch-in}
-use Rattle.property_area.proofs.ValueLaws.{value-header, value-out, value-bytes, value-broken}
+use Rattle.property_area.proofs.ValueLaws.{part-header, part-out, part-bytes, part-broken}
 use borrow.Author.Needs.{needs}
 use Rattle.property_area.proofs.values.value.Statement.{statement}
 use Rattle.property_area.proofs.values.value.Tie as tie
@@ -12,7 +12,7 @@ header-ok-requires : tie.Need-header-ok-requires
 header-ok-requires c κs = search needs
 
 returns : tie.Need-returns
-returns c = value-header _ _ (sym (c .before .header-ok .ensures) ∙ not-true _ (c .if1 .taken))
+returns c = part-header _ _ _ (sym (c .before .header-ok .ensures) ∙ not-true _ (c .if1 .taken))
 
 touched-requires : tie.Need-touched-requires
 touched-requires c κs = search needs
@@ -20,7 +20,7 @@ touched-requires c κs = search needs
 returns-2 : tie.Need-returns-2
 returns-2 c =
     let t = c .before .before in
-    value-out _ _ (sym (t .before .header-ok .ensures) ∙ not-false _ (t .if1 .left)) (sym (c .before .touched .ensures) ∙ not-true _ (c .if2 .taken))
+    part-out _ _ _ (sym (t .before .header-ok .ensures) ∙ not-false _ (t .if1 .left)) (sym (c .before .touched .ensures) ∙ not-true _ (c .if2 .taken))
 
 property-value-requires : tie.Need-property-value-requires
 property-value-requires c κs = touch-in _ entrySize _ (sym (c .before .touched .ensures) ∙ not-false _ (c .if2 .left))
@@ -35,13 +35,13 @@ returns-3 : tie.Need-returns-3
 returns-3 c =
     let e = c .before .before .before .before in
     let t = e .before .before in
-    value-bytes _ _ (sym (t .before .header-ok .ensures) ∙ not-false _ (t .if1 .left)) (sym (e .before .touched .ensures) ∙ not-false _ (e .if2 .left)) _ (c .before .before .before .property-value .ensures) _ _ (c .before .from .given .1)
+    part-bytes _ _ _ (sym (t .before .header-ok .ensures) ∙ not-false _ (t .if1 .left)) (sym (e .before .touched .ensures) ∙ not-false _ (e .if2 .left)) _ (c .before .before .before .property-value .ensures) _ _ (c .before .from .given .1)
 
 returns-4 : tie.Need-returns-4
 returns-4 c =
     let e = c .before .before .before in
     let t = e .before .before in
-    value-broken _ _ (sym (t .before .header-ok .ensures) ∙ not-false _ (t .if1 .left)) (sym (e .before .touched .ensures) ∙ not-false _ (e .if2 .left)) _ (c .before .before .property-value .ensures) (c .enum-told .given .1)
+    part-broken _ _ _ (sym (t .before .header-ok .ensures) ∙ not-false _ (t .if1 .left)) (sym (e .before .touched .ensures) ∙ not-false _ (e .if2 .left)) _ (c .before .before .property-value .ensures) (c .enum-told .given .1)
 
 pub value-spec : {M : Type 1} → statement M
 value-spec =

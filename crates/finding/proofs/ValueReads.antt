@@ -1,4 +1,4 @@
--- The value of an entry in a sound area, read from the bytes, is the tree's.
+-- The name and the value of an entry in a sound area, read from the bytes, are the tree's.
 use Prim.Native.Nat.{ℕ, zero, suc, _+_, _-_, _/_, _%_, _≤_}
 use native.Mathlib.Nat.{add-zero, add-assoc}
 use native.Mathlib.Omega.{arith}
@@ -9,18 +9,22 @@ use lib.Dec.{eqb}
 use lib.ListN.{length, getD, take}
 use lib.Seq.{getD-take, length-take-le}
 use borrow.Author.Tests.{eq-eqb, ne-eqb}
-use Rattle.lookup.specs.Look.{shows}
+use Rattle.finding.specs.Look.{shows}
 use Rattle.words.specs.Words.{firstIn, part}
 use Rattle.words.proofs.Laws.{bool-cases, first-high}
 use Rattle.layout.specs.declared.text.Span.{Span}
 use Rattle.layout.specs.Layout.{entrySize, serialField, slotField, slotSize, longOffsetField, longBit, firstFree, dataSize, byteOf, placeOf, wordAt, entryOk, entryTakes, valueTakes}
+use Rattle.layout.specs.Refusals.{accepted}
+use Rattle.property_area.specs.Header.{headerOk}
+use Rattle.property_area.specs.Value.{bytes, partSteps, partOf}
+use Rattle.property_area.proofs.ValueLaws.{part-bytes}
 use Rattle.property_info.specs.Entry.{isLong, shortValue, textFrom, nameOf, longValue, valueOf}
 use Rattle.property_info.proofs.Laws.{long-behind, value-long, value-short}
 use Rattle.sound.specs.Tree.{Value, short, long, entry, Tree, leaf, node, valueCover, entryCover}
 use Rattle.sound.specs.Sound.{Holds, HoldsText, ValueAt, EntryAt, TreeAt, Without, ValueRule, EntryRule, TreeRule}
 use Rattle.sound.proofs.Holding.{text-bytes}
-use Rattle.lookup.proofs.NodeReads.{part-holds, text-reads, Standing, InRoom, between, path-whole, own-room, entry-lies, own-touched}
-use Rattle.lookup.proofs.Spelling.{ownOf}
+use Rattle.finding.proofs.NodeReads.{part-holds, text-reads, Standing, InRoom, between, path-whole, own-room, entry-lies, own-touched}
+use Rattle.finding.proofs.Spelling.{ownOf}
 
 -- the scan over bytes that stand in an area is the scan over these bytes
 first-shift : (k : ℕ) (area : List ℕ) (from : ℕ) (bs : List ℕ) (i : ℕ) → Holds area from bs → i + k ≤ length bs
@@ -39,6 +43,13 @@ pub record Reads (area : List ℕ) (span : Span) (shown : List ℕ) : Type 0 whe
   pub to : ℕ
   pub is : span ≡ Span.Bytes from to
   pub bytes : part area from to ≡ shown
+
+-- where its entry can be touched, that part is told
+pub part-shown : (area : List ℕ) (at : ℕ) (span : Span) (shown : List ℕ) → headerOk area ≡ true → entryOk area at ≡ true → Reads area span shown
+    → (from : ℕ) × (to : ℕ) × (partSteps area at span ≡ accepted (bytes from to)) × (partOf area (partSteps area at span) ≡ shown)
+part-shown area at span shown header touched reads =
+    let there = sym (part-bytes area at span header touched span refl (reads .from) (reads .to) (reads .is)) in
+    (reads .from, reads .to, there, rw there (reads .bytes))
 
 module _ (area : List ℕ) (used : ℕ) (low : firstFree ≤ used) (high : used ≤ dataSize area) (at serial : ℕ) (name : List ℕ)
     (lies : (firstFree ≤ at) × (at + entryTakes (length name) ≤ used)) where
@@ -63,6 +74,14 @@ module _ (area : List ℕ) (used : ℕ) (low : firstFree ≤ used) (high : used 
     unfolding nameOf
     name-reads =
         text-reads area (placeOf at entrySize) name named whole (length area - placeOf at entrySize) (omega (arith, lies)) (omega (arith, lies))
+
+    name-part : Reads area (nameOf area at) name
+    name-part = record {
+      from = placeOf at entrySize;
+      to = placeOf at entrySize + length name;
+      is = name-reads;
+      bytes = part-holds area (placeOf at entrySize) name (text-bytes area (placeOf at entrySize) name named) (omega (arith, lies));
+    }
 
     long-reads : (far : ℕ) (text : List ℕ) → at + wordAt area at longOffsetField ≡ far → HoldsText area (byteOf far) text → at + entryTakes (length name) ≤ far
         → Without 0 text → far + valueTakes (length text) ≤ used → Reads area (longValue area at) text
@@ -92,17 +111,18 @@ module _ (area : List ℕ) (used : ℕ) (low : firstFree ≤ used) (high : used 
         let is-long : isLong area at ≡ true = rw word (eq-eqb (serial / longBit % 2) 1 (rule .0)) in
         record { from = reads .from; to = reads .to; is = sym (value-long area at is-long) ∙ reads .is; bytes = reads .bytes }
 
--- ---- the entry of the top node of a subtree: it can be touched, and its value is read
+-- ---- the entry of the top node of a subtree: it can be touched, and its value and its name are read
 pub own-reads : (area : List ℕ) (used : ℕ) (prefix : List ℕ) (tree : Tree) (at serial : ℕ) (name : List ℕ) (value : Value) → Standing area used prefix tree
-    → ownOf tree ≡ entry at serial name value → (entryOk area at ≡ true) × Reads area (valueOf area at) (shows value)
+    → ownOf tree ≡ entry at serial name value → (entryOk area at ≡ true) × Reads area (valueOf area at) (shows value) × Reads area (nameOf area at) name
 unfolding TreeAt TreeRule EntryAt EntryRule entryCover
 own-reads area used prefix leaf at serial name value stands is = absurd (let q : _≡_ {A = ℕ} 0 1 = cc in omega arith)
 own-reads area used prefix (node place segment own left below right) at serial name value stands is =
     let rule : EntryRule (prefix ++ segment) (entry at serial name value) = rw is at (stands .rule .1) in
     let holds : EntryAt area (entry at serial name value) = rw is at (stands .bytes .1) in
     let within : InRoom used (entryCover (entry at serial name value)) = λ i. rw is at (own-room area used prefix place segment own left below right stands i) in
-    let whole : Without 0 name = rw (rule .0) (path-whole area used prefix place segment own left below right stands) in (
+    let whole : Without 0 name = rw (rule .0) (path-whole area used prefix place segment own left below right stands) in
+    let lies = entry-lies used at serial name value (stands .low) within in (
       own-touched area used (prefix ++ segment) (entry at serial name value) (stands .low) (stands .high) within rule .1,
-      value-reads area used (stands .low) (stands .high) at serial name (entry-lies used at serial name value (stands .low) within)
-          (holds .1) whole value (holds .0) (holds .2) (rule .2) (λ i. omega (arith, within i)),
+      value-reads area used (stands .low) (stands .high) at serial name lies (holds .1) whole value (holds .0) (holds .2) (rule .2) (λ i. omega (arith, within i)),
+      name-part area used (stands .low) (stands .high) at serial name lies (holds .1) whole,
     )

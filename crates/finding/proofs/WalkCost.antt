@@ -13,10 +13,10 @@ use Rattle.property_area.proofs.TrieLaws.{segment-empty}
 use Rattle.sound.specs.Tree.{Entry, bare, Tree, leaf, node}
 use Rattle.sound.specs.Sound.{Sound}
 use Rattle.sound.specs.Ways.{reached}
-use Rattle.lookup.specs.Look.{spot, compares, byNode, costs, searchCost, walkCost}
-use Rattle.lookup.proofs.NodeReads.{Standing}
-use Rattle.lookup.proofs.Searching.{endsAt, searchEnd, linkOffset, segment-siblings}
-use Rattle.lookup.proofs.FindLook.{Parent, root-parent, node-parent, stands-reached}
+use Rattle.finding.specs.Look.{spot, compares, byNode, costs, searchCost, walkCost}
+use Rattle.finding.proofs.NodeReads.{Standing}
+use Rattle.finding.proofs.Searching.{endsAt, searchEnd, linkOffset, segment-siblings}
+use Rattle.finding.proofs.FindLook.{Parent, root-parent, node-parent, stands-reached}
 
 cost-from : (segs : List (List ℕ)) (area : List ℕ) (used : ℕ) (prefix : List ℕ) (parent : ℕ) (own : Entry) (below : Tree) → Parent area used prefix parent own below
     → walkCost area segs parent ≡ costs segs below

@@ -17,8 +17,8 @@ use Rattle.property_area.specs.declared.trie.Searched.{Searched}
 use Rattle.property_area.specs.Trie.{follow, nodesMax, byVisit, searchFrom, childSteps, segmentSteps}
 use Rattle.sound.specs.Tree.{Tree, leaf, node, link}
 use Rattle.sound.specs.Ways.{Dir, toLeft, toBelow, toRight, toward, reached, nodes, linkField}
-use Rattle.lookup.specs.Look.{turn, spot, compares}
-use Rattle.lookup.proofs.NodeReads.{Standing, stands-left, stands-right, node-lies, visit-node}
+use Rattle.finding.specs.Look.{turn, spot, compares}
+use Rattle.finding.proofs.NodeReads.{Standing, stands-left, stands-right, node-lies, visit-node}
 
 -- the offset of the link word to what a way reaches, from that of the link to the tree itself
 unfoldable pub linkOffset : ℕ → Tree → List Dir → ℕ

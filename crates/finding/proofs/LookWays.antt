@@ -18,8 +18,8 @@ use Rattle.property_area.specs.Find.{Hit, hit}
 use Rattle.sound.specs.Tree.{Value, Entry, bare, entry, Tree, leaf, node}
 use Rattle.sound.specs.Sound.{Side, TreeRule}
 use Rattle.sound.specs.Ways.{Dir, toLeft, toBelow, toRight, toward, reached}
-use Rattle.lookup.specs.Look.{turn, spot, compares, ownAnswer, byNode, look}
-use Rattle.lookup.proofs.Spelling.{ownOf, namesTo}
+use Rattle.finding.specs.Look.{turn, spot, compares, ownAnswer, byNode, look}
+use Rattle.finding.proofs.Spelling.{ownOf, namesTo}
 
 -- ---- a turn of the lookup, at a node
 module _ (at : ℕ) (name : List ℕ) (own : Entry) (left below right : Tree)

@@ -25,7 +25,7 @@ use Rattle.sound.specs.Ways.{nodes}
 use Rattle.sound.proofs.Inside.{inside-between}
 use Rattle.sound.proofs.Holding.{text-bytes, text-zero, without-append}
 use Rattle.sound.proofs.Counting.{nodes-few}
-use Rattle.lookup.specs.Look.{turn}
+use Rattle.finding.specs.Look.{turn}
 
 -- ---- bytes and texts
 module _ (area : List ℕ) (from : ℕ) where

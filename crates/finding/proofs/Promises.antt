@@ -14,20 +14,19 @@ use Rattle.layout.specs.Layout.{rootAt, firstFree}
 use Rattle.layout.specs.Refusals.{accepted, refused, numberOf}
 use Rattle.property_area.specs.Find.{hit, findSteps}
 use Rattle.property_area.specs.Value.{bytes, valueSteps, partOf}
-use Rattle.property_area.proofs.ValueLaws.{value-bytes}
 use Rattle.property_info.specs.Entry.{valueOf}
 use Rattle.sound.specs.Tree.{Value, bare, entry, Tree, leaf, node, listedOwn, listed}
 use Rattle.sound.specs.Sound.{Has, Sound}
 use Rattle.sound.specs.Ways.{Dir, toLeft, toBelow, toRight, toward, reached, nodes}
 use Rattle.sound.proofs.Counting.{nodes-few}
-use Rattle.lookup.specs.Look.{look, costs, shows, walkCost}
-use Rattle.lookup.proofs.NodeReads.{stands-whole}
-use Rattle.lookup.proofs.FindLook.{stands-reached, find-look}
-use Rattle.lookup.proofs.Spelling.{ownOf, one-name, spells}
-use Rattle.lookup.proofs.LookWays.{look-names, found-leads}
-use Rattle.lookup.proofs.WalkCost.{walk-costs}
-use Rattle.lookup.proofs.Costs.{costs-few, Counts, look-counts}
-use Rattle.lookup.proofs.ValueReads.{own-reads}
+use Rattle.finding.specs.Look.{look, costs, shows, walkCost}
+use Rattle.finding.proofs.NodeReads.{stands-whole}
+use Rattle.finding.proofs.FindLook.{stands-reached, find-look}
+use Rattle.finding.proofs.Spelling.{ownOf, one-name, spells}
+use Rattle.finding.proofs.LookWays.{look-names, found-leads}
+use Rattle.finding.proofs.WalkCost.{walk-costs}
+use Rattle.finding.proofs.Costs.{costs-few, Counts, look-counts}
+use Rattle.finding.proofs.ValueReads.{part-shown, own-reads}
 
 -- ---- a lookup compares at most all nodes of the tree; it answers a hit with their count, or 3, or 2
 look-counted : (segs : List (List ℕ)) (tree : Tree) → Counts (costs segs tree) (look segs bare tree 0)
@@ -105,5 +104,4 @@ module _ (area : List ℕ) (used : ℕ) (tree : Tree) (sound : Sound area used t
   value-shown way at serial name value is =
       let stands = stands-reached way area used [] tree (stands-whole area used tree sound) in
       let read = own-reads area used (stands .0) (reached tree way) at serial name value (stands .1) is in
-      let there = sym (value-bytes area at (sound .front .header) (read .0) (valueOf area at) refl (read .1 .from) (read .1 .to) (read .1 .is)) in
-      (read .1 .from, read .1 .to, there, rw there (read .1 .bytes))
+      part-shown area at (valueOf area at) (shows value) (sound .front .header) (read .0) (read .1)

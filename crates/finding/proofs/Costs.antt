@@ -12,8 +12,8 @@ use Rattle.layout.specs.Refusals.{Answer, accepted, refused, refuse, numberOf}
 use Rattle.property_area.specs.Find.{Hit, hit}
 use Rattle.sound.specs.Tree.{Entry, bare, entry, Tree, leaf, node}
 use Rattle.sound.specs.Ways.{toBelow, toward, reached, nodes}
-use Rattle.lookup.specs.Look.{spot, compares, ownAnswer, byNode, look, costs}
-use Rattle.lookup.proofs.Searching.{compares-few}
+use Rattle.finding.specs.Look.{spot, compares, ownAnswer, byNode, look, costs}
+use Rattle.finding.proofs.Searching.{compares-few}
 
 pub costs-few : (segs : List (List ℕ)) (below : Tree) → costs segs below ≤ nodes below
 unfolding costs

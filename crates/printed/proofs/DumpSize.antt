@@ -1,0 +1,65 @@
+-- No dump is longer than textMax: an entry's line is at most four times what the entry and its long value take, and all objects of
+-- a file take at most what it has behind its first 112 bytes of data.
+use Prim.Native.Nat.{ℕ, _+_, _*_, _≤_}
+use mathlib.Core.List.{List, _++_}
+use native.Mathlib.Omega.{arith}
+use lib.ListN.{length, length-append, length-take}
+use Rattle.words.specs.Words.{firstIn}
+use Rattle.words.proofs.Laws.{bool-cases}
+use Rattle.layout.specs.Layout.{slotSize}
+use Rattle.sound.specs.Tree.{Value, short, long, Entry, bare, entry, Tree, leaf, node, listed}
+use Rattle.sound.specs.Sound.{ValueAt, EntryAt, TreeAt}
+use Rattle.sound.proofs.Counting.{valueTaken, entryTaken, taken, taken-few}
+use Rattle.finding.specs.Look.{shows}
+use Rattle.audit.specs.Check.{usedOf, Judged, sound, unsound}
+use Rattle.texts.specs.Text.{digitsMax}
+use Rattle.texts.proofs.Promises.{escaped-few, decimal-few}
+use Rattle.answers.specs.Answers.{fileMax, textMax, fileOk, headText}
+use Rattle.printed.specs.Printed.{ownLine, treeLines, judgedDump, fileDump}
+use Rattle.printed.proofs.Sizes.{refused-small, file-fits}
+
+-- ---- a line: what a value shows is at most its slot, or its text
+shows-few : (area : List ℕ) (at : ℕ) (value : Value) → ValueAt area at value → length (shows value) ≤ slotSize + valueTaken value
+unfolding ValueAt shows
+shows-few area at (short slot) holds = omega (arith, holds .1, length-take (firstIn 0 slot 0 (length slot)) slot)
+shows-few area at (long far text) holds = omega arith
+
+line-few : (area : List ℕ) (own : Entry) → EntryAt area own → length (ownLine own) ≤ 4 * entryTaken own
+unfolding EntryAt ownLine
+line-few area bare holds = omega arith
+line-few area (entry at serial name value) holds =
+    simp length-append (omega (arith, escaped-few name, escaped-few (shows value), shows-few area at value (holds .2)))
+
+lines-few : (area : List ℕ) (tree : Tree) → TreeAt area tree → length (treeLines tree) ≤ 4 * taken tree
+unfolding TreeAt treeLines taken
+lines-few area leaf holds = omega arith
+lines-few area (node at name own left below right) holds =
+    omega (
+      arith,
+      length-append (treeLines left ++ ownLine own ++ treeLines below) (treeLines right),
+      length-append (treeLines left ++ ownLine own) (treeLines below),
+      length-append (treeLines left) (ownLine own),
+      line-few area own (holds .1),
+      lines-few area left (holds .2),
+      lines-few area below (holds .3),
+      lines-few area right (holds .4),
+    )
+
+-- ---- beside four times the longest file there is room for the first line
+head-small : (count used : ℕ) → 4 * fileMax + length (headText count used) ≤ textMax
+head-small count used = simp length-append (omega (arith, decimal-few digitsMax count, decimal-few digitsMax used))
+
+pub dump-small : (area : List ℕ) (judged : Judged area) → length (fileDump area judged) ≤ textMax
+dump-small area judged = bool-cases (fileOk area) (λ ok. rw ok (by (file-fits area ok) judged)) (λ no. rw no (refused-small _))
+  where
+    by : length area ≤ fileMax → (judged : Judged area) → length (judgedDump area judged) ≤ textMax
+    by few (sound tree is) =
+        omega (
+          arith,
+          length-append (headText (length (listed tree)) (usedOf area)) (treeLines tree),
+          head-small (length (listed tree)) (usedOf area),
+          lines-few area tree (is .bytes),
+          taken-few area (usedOf area) tree is,
+          is .front .high,
+        )
+    by few (unsound none) = refused-small _

@@ -1,0 +1,6 @@
+pub mod TreeLines
+pub mod Sizes
+pub mod DumpSize
+pub mod Dumping
+pub mod Serving
+pub mod Promises
