@@ -4,6 +4,8 @@
 //! - `small.area`: two settings, one updated, one long: the picture in the README.
 //! - `inverter.area`: an inverter's settings, some of them updated, one long.
 //! - `pulses.area`: two meters' energy pulses day by day, each counter added at 0 and updated three times, until the area is full.
+//! - `settled.area`: the second settled example of document 01.
+//! - `large.area`: the same in more bytes than the programs take.
 //! - `damaged.area`: `inverter.area` with the root's children leading to the last bytes, where no node fits.
 
 use std::path::Path;
@@ -45,6 +47,14 @@ fn small() -> Result<Vec<u8>, Refusal> {
     area.add("inverter.limit", "70")?;
     area.add("inverter.note", NOTE)?;
     area.update("inverter.limit", "100")?;
+    Ok(bytes)
+}
+
+fn settled(size: usize) -> Result<Vec<u8>, Refusal> {
+    let mut bytes = vec![0; size];
+    let mut area = AreaMut::format(&mut bytes)?;
+    area.add("ab.c", "12")?;
+    area.add("b", "q")?;
     Ok(bytes)
 }
 
@@ -106,6 +116,8 @@ fn main() -> Result<(), Box<dyn error::Error>> {
     let areas = [
         ("fresh.area", fresh),
         ("small.area", small()?),
+        ("settled.area", settled(4_096)?),
+        ("large.area", settled(65_540)?),
         ("damaged.area", damaged(settings.clone())),
         ("inverter.area", settings),
         ("pulses.area", pulses()?),

@@ -1,0 +1,4 @@
+// The dump of a damaged area.
+fn main() {
+    programs::dump();
+}

@@ -1,0 +1,4 @@
+// The dump of an empty file.
+fn main() {
+    programs::dump();
+}

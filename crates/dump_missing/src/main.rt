@@ -1,0 +1,4 @@
+// The dump where there is no file.
+fn main() {
+    programs::dump();
+}

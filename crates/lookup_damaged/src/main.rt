@@ -1,0 +1,4 @@
+// The lookup in a damaged area.
+fn main() {
+    programs::lookup();
+}

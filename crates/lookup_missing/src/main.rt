@@ -1,0 +1,4 @@
+// The lookup where there is no file.
+fn main() {
+    programs::lookup();
+}

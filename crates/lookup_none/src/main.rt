@@ -1,0 +1,4 @@
+// The lookup of no name: the input is empty.
+fn main() {
+    programs::lookup();
+}
