@@ -1,15 +1,25 @@
--- What the answers promise: no second outcome, of the answer, the turn, the end and the dump, the lent bytes with them.
-use Prim.Native.Nat.{ℕ}
+-- What the answers promise: the lookup prints what the history speaks of; no second outcome, of the answer, the turn, the end and the dump, the lent bytes with them.
+use Prim.Native.Nat.{ℕ, _≤_}
 use mathlib.Core.Path.{_≡_, sym, _∙_}
+use mathlib.Core.Bool.{true}
 use mathlib.Core.List.{List}
+use borrow.Author.Tests.{le-leb}
+use lib.ListN.{length}
+use Rattle.property_area.specs.Lookup.{shown}
 use Rattle.audit.specs.Check.{Judged}
 use Rattle.audit.proofs.Promises.{every-judged}
 use Rattle.texts.specs.Text.{saying, said}
 use Rattle.texts.proofs.Promises.{one-said}
-use Rattle.answers.specs.Answers.{answerText, dumps, dumpSteps}
+use Rattle.answers.specs.Answers.{nameMax, fileOk, askSteps, answerLine, answerText, dumps, dumpSteps}
 use Rattle.answers.specs.Lines.{turned, turnSteps, endSteps}
 use Rattle.answers.specs.declared.Progress.{Progress}
 
+-- ---- in a file of an area's header, a name that is not too long gets the line of what a lookup shows
+pub answer-shows : (area name : List ℕ) → fileOk area ≡ true → length name ≤ nameMax → answerText area name ≡ answerLine (shown area name)
+unfolding answerText askSteps shown
+answer-shows area name ok few = rw (ok, le-leb (length name) nameMax few)
+
+-- ---- no second outcome
 pub one-answer : (area name out : List ℕ) (at r s : ℕ) (a b : List ℕ) → saying r a ≡ said out at (answerText area name) → saying s b ≡ said out at (answerText area name)
     → (r ≡ s) × (a ≡ b)
 one-answer area name out at r s a b p q = one-said out at (answerText area name) r s a b p q

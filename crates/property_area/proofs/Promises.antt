@@ -20,6 +20,7 @@ use Rattle.property_area.specs.declared.values.Shown.{Shown}
 use Rattle.property_area.specs.Header.{headerOk}
 use Rattle.property_area.specs.Trie.{visitNode, byVisit, nodesMax, searchFrom, segmentSteps}
 use Rattle.property_area.specs.Find.{Hit, hit, countLimit, foundAnswer, bySearch, propSteps, findFrom, findSteps}
+use Rattle.property_area.specs.Lookup.{lookupSteps}
 use Rattle.property_area.specs.Value.{shownAnswer, valueSteps}
 use Rattle.property_area.specs.Backup.{backupSteps}
 
@@ -42,6 +43,9 @@ one-found area name a b p q = found-tells a b (p ∙ sym q)
 
 pub one-shown : (area : List ℕ) (offset : ℕ) (a b : Shown) → shownAnswer a ≡ valueSteps area offset → shownAnswer b ≡ valueSteps area offset → a ≡ b
 one-shown area offset a b p q = shown-tells a b (p ∙ sym q)
+
+pub one-lookup : (area name : List ℕ) (a b : Shown) → shownAnswer a ≡ lookupSteps area name → shownAnswer b ≡ lookupSteps area name → a ≡ b
+one-lookup area name a b p q = shown-tells a b (p ∙ sym q)
 
 pub one-backup : (area buffer : List ℕ) (v w : Verdict) (a b : List ℕ)
     → leaves (verdictNumber v) a ≡ backupSteps area buffer → leaves (verdictNumber w) b ≡ backupSteps area buffer → (v ≡ w) × (a ≡ b)
