@@ -1,14 +1,15 @@
 // The programs dump and lookup. They move bytes: area.bin and standard input into buffers, the texts of the crate answers to standard output.
 ghost use mathlib.Core.Path.{_≡_};
-ghost use Prim.Native.Nat.{_+_, _≤_};
-ghost use mathlib.Core.List.{_++_};
-ghost use lib.ListN.{length, take};
+ghost use mathlib.Core.List.{List, _++_};
+ghost use Prim.Native.Nat.{ℕ, _≤_, _<_};
+ghost use lib.ListN.{length, take, drop};
 ghost use Rattle.io.specs.Counts.{Counts};
+ghost use Rattle.sound.specs.Sound.{Without};
 ghost use Rattle.audit.specs.Check.{Judged};
-ghost use Rattle.texts.specs.Text.{saying, feed};
-ghost use Rattle.answers.specs.Answers.{textMax};
-ghost use Rattle.answers.specs.Lines.{turned, turnSteps};
-ghost use Rattle.printed.specs.Printed.{fileDump, fedText, endText};
+ghost use Rattle.texts.specs.Text.{lineFeed};
+ghost use Rattle.answers.specs.Answers.{nameMax, textMax};
+ghost use Rattle.answers.specs.Lines.{lookupText};
+ghost use Rattle.printed.specs.Printed.{fileDump};
 use answers::Progress;
 use libc::STDIN_FILENO;
 use libc::STDOUT_FILENO;
@@ -60,51 +61,52 @@ pub fn dump() {
 
 // ---- lookup
 
-// A turn of the lookup with room for any answer, so that no byte of it is dropped.
-fn whole_turn(
+// Answers the names of a piece of input from a place on, as long as the output has room for any answer. What is said stands at the output's start: with what is owed for
+// the rest it is what was owed before, whatever input comes later.
+fn answer_some(
     area: &[u8],
     input: &[u8],
     from: usize,
     line: &mut [u8],
     have: usize,
     out: &mut [u8],
-    at: usize,
 ) -> Progress
-    requires { ⌜ at + textMax ≤ length (now out) ⌝ }
-    ensures steps { λ r. ⌜ turned (r .have) (r .next) (now (line .exit)) (saying (r .at) (now (out .exit))) ≡ turnSteps (now (area .entry)) (now (input .entry)) from (now (line .entry)) have (now (out .entry)) at ⌝ }
-    ensures whole { λ r. ⌜ take (r .at) (now (out .exit)) ≡ take at (now (out .entry)) ++ fedText (now (area .entry)) (feed (now (input .entry)) from (now (line .entry)) have) ⌝ }
-{
-    answers::turn(area, input, from, line, have, out, at)
-}
-
-// Writes the output out where it may lack room for another answer. The next place.
-fn make_room(out: &[u8], at: usize) -> usize
-    requires { ⌜ (at ≤ length (now out)) × (textMax ≤ length (now out)) ⌝ }
-    ensures { λ r. ⌜ r + textMax ≤ length (now (out .entry)) ⌝ }
-{
-    if TEXT_MAX <= out.len() - at {
-        return at;
-    }
-    print(&out[..at]);
-    0
-}
-
-// Answers the names of a piece of input, behind what the line has, and writes the answers out. The bytes that the line then has.
-fn serve(area: &[u8], input: &[u8], line: &mut [u8], have: usize, out: &mut [u8]) -> usize
-    requires { ⌜ (have ≤ length (now line)) × (textMax ≤ length (now out)) ⌝ }
-    ensures { λ r. ⌜ r ≤ length (now (line .entry)) ⌝ }
+    requires { ⌜ (nameMax < length (now line)) × (textMax ≤ length (now out)) × (from ≤ length (now input)) × (have ≤ length (now line)) × Without lineFeed (take have (now line)) ⌝ }
+    ensures within { λ r. ⌜ (r .have ≤ length (now (line .exit))) × (r .next ≤ length (now (input .entry))) × (r .at ≤ length (now (out .exit))) ⌝ }
+    ensures goes { λ r. ⌜ (from < length (now (input .entry)) → from < r .next) ⌝ }
+    ensures clean { λ r. ⌜ Without lineFeed (take (r .have) (now (line .exit))) ⌝ }
+    ensures serves { λ r. ⌜ ((later : List ℕ) → lookupText (now (area .entry)) (take have (now (line .entry)) ++ (drop from (now (input .entry)) ++ later)) ≡ take (r .at) (now (out .exit)) ++ lookupText (now (area .entry)) (take (r .have) (now (line .exit)) ++ (drop (r .next) (now (input .entry)) ++ later))) ⌝ }
 {
     let mut held = have;
-    let mut next = 0;
+    let mut next = from;
     let mut at = 0;
-    while next < input.len() {
-        at = make_room(out, at);
-        let progress = whole_turn(area, input, next, line, held, out, at);
+    while next < input.len() && TEXT_MAX <= out.len() - at {
+        let progress = answers::turn(area, input, next, line, held, out, at);
         held = progress.have;
         next = progress.next;
         at = progress.at;
     }
-    print(&out[..at]);
+    Progress {
+        have: held,
+        next,
+        at,
+    }
+}
+
+// Answers all names of a piece of input and prints the answers. The bytes that the line then has.
+fn serve(area: &[u8], input: &[u8], line: &mut [u8], have: usize, out: &mut [u8]) -> usize
+    requires { ⌜ (nameMax < length (now line)) × (textMax ≤ length (now out)) × (have ≤ length (now line)) × Without lineFeed (take have (now line)) ⌝ }
+    ensures { λ r. ⌜ (r ≤ length (now (line .exit))) × Without lineFeed (take r (now (line .exit))) ⌝ }
+{
+    let mut held = have;
+    let mut next = 0;
+    while next < input.len() {
+        let progress = answer_some(area, input, next, line, held, out);
+        held = progress.have;
+        next = progress.next;
+        let told = progress.at;
+        print(&out[..told]);
+    }
     held
 }
 
@@ -118,8 +120,8 @@ fn read_some(buf: &mut [u8]) -> usize
 
 // One read of the input, and its names. `more` says whether to go on.
 fn serve_some(area: &[u8], line: &mut [u8], have: usize, out: &mut [u8], more: &mut bool) -> usize
-    requires { ⌜ (have ≤ length (now line)) × (textMax ≤ length (now out)) ⌝ }
-    ensures { λ r. ⌜ r ≤ length (now (line .entry)) ⌝ }
+    requires { ⌜ (nameMax < length (now line)) × (textMax ≤ length (now out)) × (have ≤ length (now line)) × Without lineFeed (take have (now line)) ⌝ }
+    ensures { λ r. ⌜ (r ≤ length (now (line .exit))) × Without lineFeed (take r (now (line .exit))) ⌝ }
 {
     let mut space = io::large_buffer();
     let size = read_some(&mut space);
@@ -132,7 +134,7 @@ fn serve_some(area: &[u8], line: &mut [u8], have: usize, out: &mut [u8], more: &
 
 // All names of the input. A proved loop has to end, and nothing says that the input does: the reads are counted down from 2^64 - 1.
 fn serve_all(area: &[u8], line: &mut [u8], out: &mut [u8])
-    requires { ⌜ textMax ≤ length (now out) ⌝ }
+    requires { ⌜ (nameMax < length (now line)) × (textMax ≤ length (now out)) ⌝ }
 {
     let mut held = 0;
     let mut more = true;
@@ -144,17 +146,17 @@ fn serve_all(area: &[u8], line: &mut [u8], out: &mut [u8])
     finish(area, &line[..held], out);
 }
 
-// Puts the answer to a last line without line feed at the start of the output, all of it. The next place.
+// Puts what is owed for a last line without line feed at the start of the output. The next place.
 fn last_text(area: &[u8], held: &[u8], out: &mut [u8]) -> usize
-    requires { ⌜ textMax ≤ length (now out) ⌝ }
+    requires { ⌜ (textMax ≤ length (now out)) × Without lineFeed (now held) ⌝ }
     ensures within { λ r. ⌜ r ≤ length (now (out .exit)) ⌝ }
-    ensures whole { λ r. ⌜ take r (now (out .exit)) ≡ endText (now (area .entry)) (now (held .entry)) ⌝ }
+    ensures whole { λ r. ⌜ take r (now (out .exit)) ≡ lookupText (now (area .entry)) (now (held .entry)) ⌝ }
 {
     answers::finish(area, held, out, 0)
 }
 
 fn finish(area: &[u8], held: &[u8], out: &mut [u8])
-    requires { ⌜ textMax ≤ length (now out) ⌝ }
+    requires { ⌜ (textMax ≤ length (now out)) × Without lineFeed (now held) ⌝ }
 {
     let told = last_text(area, held, out);
     print(&out[..told]);

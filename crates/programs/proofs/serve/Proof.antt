@@ -1,54 +1,46 @@
--- `serve` goes through the input and prints what the turns say. The loop's invariant: places lie within their buffers, whose lengths stay.
+-- `serve` goes through the input and prints what `answer_some` says. The loop's invariant: places lie within their buffers, whose lengths stay; no line feed is held.
 -- The measure is what is left of the input. Assumes nothing.
 use Prim.Native.Nat.{_-_, _≤_}
-use mathlib.Core.Path.{_≡_, refl, sym, _∙_}
+use mathlib.Core.Path.{_≡_, refl, sym}
 use native.Mathlib.Omega.{arith}
-use lib.ListN.{length}
+use lib.ListN.{length, take}
 use lib.Seq.{length-take-le}
-use Rattle.answers.proofs.Within.{turn-within}
+use Rattle.sound.specs.Sound.{Without}
+use Rattle.texts.specs.Text.{lineFeed}
 use borrow.Author.Needs.{needs}
 use Rattle.programs.proofs.serve.Statement.{statement}
 use Rattle.programs.proofs.serve.Tie as tie
 
 abbrev Inv-loop : tie.InvT-loop
-Inv-loop area input line₀ have out₀ held₀ next₀ at₀ line out held next at =
-    (length line ≡ length line₀) × (length out ≡ length out₀) × (held ≤ length line) × (next ≤ length input) × (at ≤ length out)
+Inv-loop area input line₀ have out₀ held₀ next₀ line out held next =
+    (length line ≡ length line₀) × (length out ≡ length out₀) × (held ≤ length line) × (next ≤ length input) × Without lineFeed (take held line)
 
 abbrev μ-loop : tie.MeasureT-loop
-μ-loop area input line₀ have out₀ held₀ next₀ at₀ line out held next at = length input - next
+μ-loop area input line₀ have out₀ held₀ next₀ line out held next = length input - next
 
 loop-holds : tie.Need-loop-holds Inv-loop μ-loop
-loop-holds c = (refl, refl, omega arith, omega arith, omega arith)
+loop-holds c = (refl, refl, omega arith, omega arith, c .before .before .before .before .pre .3)
 
-make-room-requires : tie.Need-make-room-requires Inv-loop μ-loop
-make-room-requires c κs = (c .before .before .loop .inv .4, omega arith)
-
-whole-turn-requires : tie.Need-whole-turn-requires Inv-loop μ-loop
-whole-turn-requires c κs = omega arith
-
-loop-less : tie.Need-loop-less Inv-loop μ-loop
-loop-less c =
-    let t = c .before .before .before .before in
-    let i = t .before .before .before .before .before in
-    let inv = i .before .loop .inv in
-    let w = turn-within _ _ _ _ _ _ _ _ _ _ _ _ (t .whole-turn .ensures .0) (omega arith) (inv .2) (inv .3) in
-    omega (arith, w .goes (i .loop-test .taken), w .input-left)
-
-loop-again : tie.Need-loop-again Inv-loop μ-loop
-loop-again c =
-    let t = c .before .before .before .before in
-    let inv = t .before .before .before .before .before .before .loop .inv in
-    let w = turn-within _ _ _ _ _ _ _ _ _ _ _ _ (t .whole-turn .ensures .0) (omega arith) (inv .2) (inv .3) in
-    (w .size ∙ inv .0, w .output .size ∙ inv .1, w .held, w .input-left, w .output .place)
+answer-some-requires : tie.Need-answer-some-requires Inv-loop μ-loop
+answer-some-requires c κs = let inv = c .before .before .before .loop .inv in (omega arith, omega arith, inv .3, inv .2, inv .4)
 
 slice-reshare-prefix-print : tie.Need-slice-reshare-prefix-print Inv-loop μ-loop
-slice-reshare-prefix-print c = c .before .loop .inv .4
+slice-reshare-prefix-print c = c .before .before .before .before .answer-some .ensures .0 .2
 
 slice-aggregate-print : tie.Need-slice-aggregate-print Inv-loop μ-loop
-slice-aggregate-print c = sym (length-take-le _ _ (c .before .before .loop .inv .4))
+slice-aggregate-print c = sym (length-take-le _ _ (c .before .before .before .before .before .answer-some .ensures .0 .2))
 
 print-requires : tie.Need-print-requires Inv-loop μ-loop
 print-requires c κs = search needs
+
+loop-less : tie.Need-loop-less Inv-loop μ-loop
+loop-less c =
+    let t = c .before .before .before .before .before .before in
+    let says = t .answer-some .ensures in
+    omega (arith, says .1 .0 (t .before .before .before .loop-test .taken), says .0 .1)
+
+loop-again : tie.Need-loop-again Inv-loop μ-loop
+loop-again c = let says = c .before .before .before .before .before .before .answer-some .ensures in (omega arith, omega arith, says .0 .0, says .0 .1, says .1 .1 .0)
 
 same-length : tie.Need-same-length Inv-loop μ-loop
 same-length c = omega arith
@@ -57,7 +49,7 @@ same-length-2 : tie.Need-same-length-2 Inv-loop μ-loop
 same-length-2 c = omega arith
 
 returns : tie.Need-returns Inv-loop μ-loop
-returns c = omega arith
+returns c = (c .before .loop .inv .2, c .before .loop .inv .4)
 
 pub serve-spec : {M : Type 1} → statement M
 serve-spec =
@@ -66,13 +58,12 @@ serve-spec =
     Inv-loop
     μ-loop
     loop-holds
-    make-room-requires
-    whole-turn-requires
-    loop-less
-    loop-again
+    answer-some-requires
     slice-reshare-prefix-print
     slice-aggregate-print
     print-requires
+    loop-less
+    loop-again
     same-length
     same-length-2
     returns)

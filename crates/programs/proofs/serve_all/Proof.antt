@@ -1,25 +1,28 @@
--- `serve_all` reads until the input ends. The loop's invariant: what is held lies within the line; the lengths stay. The measure is the reads left. Assumes nothing.
+-- `serve_all` reads until the input ends. The loop's invariant: what is held lies within the line and has no line feed; the lengths stay. The measure is the
+-- reads left. Assumes nothing.
 use Prim.Native.Nat.{_≤_}
 use mathlib.Core.Path.{_≡_, refl, sym}
 use native.Mathlib.Omega.{arith}
-use lib.ListN.{length}
+use lib.ListN.{length, take}
 use lib.Seq.{length-take-le}
+use Rattle.sound.specs.Sound.{Without}
+use Rattle.texts.specs.Text.{lineFeed}
 use borrow.Author.Needs.{needs}
 use Rattle.programs.proofs.serve_all.Statement.{statement}
 use Rattle.programs.proofs.serve_all.Tie as tie
 
 abbrev Inv-loop : tie.InvT-loop
 Inv-loop area line₀ out₀ held₀ more₀ reads₀ line out held more reads =
-    (length line ≡ length line₀) × (length out ≡ length out₀) × (held ≤ length line)
+    (length line ≡ length line₀) × (length out ≡ length out₀) × (held ≤ length line) × Without lineFeed (take held line)
 
 abbrev μ-loop : tie.MeasureT-loop
 μ-loop area line₀ out₀ held₀ more₀ reads₀ line out held more reads = reads
 
 loop-holds : tie.Need-loop-holds Inv-loop μ-loop
-loop-holds c = (refl, refl, omega arith)
+loop-holds c = (refl, refl, omega arith, λ k l e. omega (arith, l))
 
 serve-some-requires : tie.Need-serve-some-requires Inv-loop μ-loop
-serve-some-requires c κs = (omega arith, omega arith)
+serve-some-requires c κs = (omega arith, omega arith, omega arith, c .before .before .before .before .before .loop .inv .3)
 
 sub-reads : tie.Need-sub-reads Inv-loop μ-loop
 sub-reads c = omega arith
@@ -28,7 +31,7 @@ loop-less : tie.Need-loop-less Inv-loop μ-loop
 loop-less c = omega arith
 
 loop-again : tie.Need-loop-again Inv-loop μ-loop
-loop-again c = (omega arith, omega arith, omega arith)
+loop-again c = (omega arith, omega arith, omega arith, c .before .before .before .before .serve-some .ensures .1)
 
 slice-reshare-prefix-finish : tie.Need-slice-reshare-prefix-finish Inv-loop μ-loop
 slice-reshare-prefix-finish c = omega arith
@@ -37,7 +40,7 @@ slice-aggregate-finish : tie.Need-slice-aggregate-finish Inv-loop μ-loop
 slice-aggregate-finish c = sym (length-take-le _ _ (omega arith))
 
 finish-requires : tie.Need-finish-requires Inv-loop μ-loop
-finish-requires c κs = omega arith
+finish-requires c κs = (omega arith, c .before .before .before .loop .inv .3)
 
 same-length : tie.Need-same-length Inv-loop μ-loop
 same-length c = omega arith
