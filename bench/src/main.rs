@@ -16,24 +16,25 @@ mod work;
 use names::Shape;
 use rng::Rng;
 use sides::{Kind, Who};
-use std::{env, process};
+use std::process::ExitCode;
 use work::Work;
 
 const ROUNDS: u64 = 1000;
 const SEED: u64 = 1;
 
-fn main() {
-    let words: Vec<String> = env::args().skip(1).collect();
-    let words: Vec<&str> = words.iter().map(String::as_str).collect();
-    let done = match words[..] {
+const USAGE: &str = "usage: bench times [ROUNDS] [SEED] | instructions [SEED] | passes NAMES SIDE CALL PASSES [SEED]";
+
+fn main() -> ExitCode {
+    words::obey(USAGE, |words| command(words).map(|()| true))
+}
+
+/// None where the words make no sense.
+fn command(words: &[&str]) -> Option<()> {
+    match *words {
         ["times", ref rest @ ..] => times(number(rest, 0, ROUNDS), number(rest, 1, SEED)),
         ["instructions", ref rest @ ..] => instructions(number(rest, 0, SEED)),
         ["passes", shape, who, kind, passes, ref rest @ ..] => run_passes(shape, who, kind, passes, number(rest, 0, SEED)),
         _ => None,
-    };
-    if done.is_none() {
-        eprintln!("usage: bench times [ROUNDS] [SEED] | instructions [SEED] | passes NAMES SIDE CALL PASSES [SEED]");
-        process::exit(2);
     }
 }
 

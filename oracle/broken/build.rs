@@ -1,8 +1,11 @@
 //! Writes one module for each edit of edits.txt and walk-edits.txt: the twin's text, or the walk's, with that one place changed. An edit
 //! whose old text does not stand exactly once there stops the build.
 
-use std::path::{Path, PathBuf};
-use std::{env, fs, process};
+#[path = "../build_files.rs"]
+mod build_files;
+
+use build_files::{folder, read, stop};
+use std::fs;
 
 fn main() {
     let twins = mutants("../twin/src/lib.rs", "edits.txt", "m", "Twin", "MUTANTS: &[(&str, &(dyn calls::Side + Sync))]");
@@ -35,19 +38,4 @@ fn mutants(text: &str, edits: &str, letter: &str, what: &str, table: &str) -> St
 fn field(paragraph: &str, start: &str) -> String {
     let line = paragraph.lines().find_map(|line| line.strip_prefix(start));
     line.unwrap_or_else(|| stop(&format!("no `{start}` in this edit:\n{paragraph}"))).replace("\\n", "\n")
-}
-
-/// A folder that cargo names.
-fn folder(name: &str) -> PathBuf {
-    env::var_os(name).unwrap_or_else(|| stop(&format!("cargo sets no {name}"))).into()
-}
-
-fn read(file: &Path) -> String {
-    println!("cargo::rerun-if-changed={}", file.display());
-    fs::read_to_string(file).unwrap_or_else(|error| stop(&format!("{}: {error}", file.display())))
-}
-
-fn stop(why: &str) -> ! {
-    eprintln!("broken: {why}");
-    process::exit(1)
 }

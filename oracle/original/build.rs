@@ -1,7 +1,11 @@
 //! Finds the Rust that is compared with and writes the files that include it into OUT_DIR. None of its text is kept here.
 
+#[path = "../build_files.rs"]
+mod build_files;
+
+use build_files::{folder, read, stop};
 use std::path::{Path, PathBuf};
-use std::{env, fs, process};
+use std::{env, fs};
 
 /// The files that are read, with a checksum (FNV-1a, 64 bits, over the lines) of the text at baa8c490b1. All but lib.rs, of
 /// which one function is cut out, are compiled whole and unchanged.
@@ -90,19 +94,4 @@ fn replace_once(text: &str, old: &str, new: &str) -> String {
 fn checksum(text: &str) -> u64 {
     let step = |sum: u64, byte: u8| (sum ^ u64::from(byte)).wrapping_mul(0x0000_0100_0000_01b3);
     text.trim_end().lines().flat_map(|line| line.bytes().chain([b'\n'])).fold(0xcbf2_9ce4_8422_2325, step)
-}
-
-/// A folder that cargo names.
-fn folder(name: &str) -> PathBuf {
-    env::var_os(name).unwrap_or_else(|| stop(&format!("cargo sets no {name}"))).into()
-}
-
-fn read(file: &Path) -> String {
-    println!("cargo::rerun-if-changed={}", file.display());
-    fs::read_to_string(file).unwrap_or_else(|error| stop(&format!("{}: {error}", file.display())))
-}
-
-fn stop(why: &str) -> ! {
-    eprintln!("original: {why}");
-    process::exit(1)
 }

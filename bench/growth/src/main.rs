@@ -12,8 +12,8 @@ mod shapes;
 
 use calls::Audit;
 use shapes::SHAPES;
+use std::fs;
 use std::process::ExitCode;
-use std::{env, fs};
 
 /// The most that the cost of a byte may grow by.
 const MOST: f64 = 3.0;
@@ -24,17 +24,12 @@ const USAGE: &str = "usage: growth times SIDE LENGTH.. | instructions SIDE LENGT
 SIDE is twin, or archive with the feature of that name.";
 
 fn main() -> ExitCode {
-    let words: Vec<String> = env::args().skip(1).collect();
-    let words: Vec<&str> = words.iter().map(String::as_str).collect();
-    command(&words).unwrap_or_else(|| {
-        eprintln!("{USAGE}");
-        ExitCode::from(2)
-    })
+    words::obey(USAGE, command)
 }
 
-/// None where the words make no sense.
-fn command(words: &[&str]) -> Option<ExitCode> {
-    let passed = match *words {
+/// Whether all went well; None where the words make no sense.
+fn command(words: &[&str]) -> Option<bool> {
+    Some(match *words {
         ["passes", name, file, passes] => {
             measures::passes(side(name)?, &mut fs::read(file).ok()?, passes.parse().ok()?);
             true
@@ -48,8 +43,7 @@ fn command(words: &[&str]) -> Option<ExitCode> {
             table(side(name)?, &parsed(lengths)?, |_, area| measures::instructions(name, area))
         }
         _ => return None,
-    };
-    Some(if passed { ExitCode::SUCCESS } else { ExitCode::FAILURE })
+    })
 }
 
 fn parsed(lengths: &[&str]) -> Option<Vec<usize>> {

@@ -38,6 +38,7 @@ pub struct Count {
 type Bytes = *const u8;
 type BytesMut = *mut u8;
 
+// Separate from oracle/archive/src/lib.rs on purpose: this crate stands alone, and the tests of each hold it against the archive.
 extern "C" {
     fn pa_format(area: BytesMut, area_len: usize) -> u32;
     fn pa_find(area: Bytes, area_len: usize, name: Bytes, name_len: usize) -> Found;

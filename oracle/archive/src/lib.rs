@@ -6,6 +6,7 @@ use calls::{Audit, Count, Found, Part, Side};
 type Bytes = *const u8;
 type BytesMut = *mut u8;
 
+// Separate from bindings/rust/src/ffi.rs on purpose: that crate stands alone, and the tests of each hold it against the archive.
 extern "C" {
     fn pa_format(area: BytesMut, area_len: usize) -> u32;
     fn pa_find(area: Bytes, area_len: usize, name: Bytes, name_len: usize) -> Found;

@@ -19,7 +19,6 @@ mod tiny;
 use hold::Ours;
 use play::{play, shrink, Shown};
 use rng::Rng;
-use std::env;
 use std::process::ExitCode;
 use std::time::{Duration, Instant};
 use tally::Tally;
@@ -33,17 +32,12 @@ SIDE is twin; archive or mutant-NUMBER with the features of that name.";
 const MOST_SHOWN: usize = 5;
 
 fn main() -> ExitCode {
-    let words: Vec<String> = env::args().skip(1).collect();
-    let words: Vec<&str> = words.iter().map(String::as_str).collect();
-    command(&words).unwrap_or_else(|| {
-        eprintln!("{USAGE}");
-        ExitCode::from(2)
-    })
+    words::obey(USAGE, command)
 }
 
-/// None where the words make no sense.
-fn command(words: &[&str]) -> Option<ExitCode> {
-    let passed = match *words {
+/// Whether all went well; None where the words make no sense.
+fn command(words: &[&str]) -> Option<bool> {
+    Some(match *words {
         ["run", name, thousands, seed] => {
             let areas = thousands.parse::<f64>().ok()? * 1e3;
             run(side(name)?, areas as u64, seed.parse().ok()?)
@@ -51,8 +45,7 @@ fn command(words: &[&str]) -> Option<ExitCode> {
         #[cfg(feature = "mutants")]
         ["mutants", areas, seed] => mutation::check(areas.parse().ok()?, seed.parse().ok()?),
         _ => return None,
-    };
-    Some(if passed { ExitCode::SUCCESS } else { ExitCode::FAILURE })
+    })
 }
 
 fn side(name: &str) -> Option<Ours> {

@@ -22,9 +22,9 @@ use families::play_case;
 #[cfg(feature = "archive")]
 use other_bytes::OtherBytes;
 use play::{Difference, Ours, Player};
+use std::fs;
 use std::process::ExitCode;
 use std::time::{Duration, Instant};
-use std::{env, fs};
 
 const USAGE: &str = "usage: compare run SIDE MILLIONS SEED
        compare replay SIDE FILE
@@ -38,17 +38,12 @@ const TWIN: Ours = Ours::against_original("twin", &twin::Twin);
 const MOST_SHOWN: usize = 5;
 
 fn main() -> ExitCode {
-    let words: Vec<String> = env::args().skip(1).collect();
-    let words: Vec<&str> = words.iter().map(String::as_str).collect();
-    command(&words).unwrap_or_else(|| {
-        eprintln!("{USAGE}");
-        ExitCode::from(2)
-    })
+    words::obey(USAGE, command)
 }
 
-/// None where the words make no sense.
-fn command(words: &[&str]) -> Option<ExitCode> {
-    let passed = match *words {
+/// Whether all went well; None where the words make no sense.
+fn command(words: &[&str]) -> Option<bool> {
+    Some(match *words {
         ["run", name, millions, seed] => {
             let calls = millions.parse::<f64>().ok()? * 1e6;
             run(side(name)?, calls as u64, seed.parse().ok()?)
@@ -59,8 +54,7 @@ fn command(words: &[&str]) -> Option<ExitCode> {
         ["vectors", file, seed] => mutation::write_vectors(TWIN, file, seed.parse().ok()?),
         ["replay", name, file] => replay_vectors(side(name)?, file),
         _ => return None,
-    };
-    Some(if passed { ExitCode::SUCCESS } else { ExitCode::FAILURE })
+    })
 }
 
 fn side(name: &str) -> Option<Ours> {

@@ -4,6 +4,7 @@
 //! twin for timing. Every function follows one paragraph of the document, in its order.
 
 use calls::{Found, Part, Side};
+use layout::{Entry, Header, Node, BACKUP, FIRST_FREE, LONGEST, SLOT_SIZE};
 use std::cmp::Ordering;
 
 /// Document 01's refusals, by number.
@@ -23,47 +24,6 @@ pub enum Refusal {
 use Refusal::{Damage, EmptySegment, LongEntry, Missing, NoRoom, Over32Bits, TooLong, ZeroByte};
 
 pub type Answer<T> = Result<T, Refusal>;
-
-struct Header;
-
-impl Header {
-    const USED: usize = 0;
-    const MAGIC: usize = 8;
-    const VERSION: usize = 12;
-    const SIZE: usize = 128;
-    const PROP: &'static [u8; 4] = b"PROP";
-    const VERSION_WORD: u32 = 0xfc6e_d0ab;
-}
-
-struct Node;
-
-impl Node {
-    const NAMELEN: usize = 0;
-    const PROP: usize = 4;
-    const LEFT: usize = 8;
-    const RIGHT: usize = 12;
-    const CHILDREN: usize = 16;
-    const SIZE: usize = 20;
-}
-
-struct Entry;
-
-impl Entry {
-    const SERIAL: usize = 0;
-    const SLOT: usize = 4;
-    const LONG_OFFSET: usize = 60;
-    const SIZE: usize = 96;
-    const LONG_BIT: u32 = 1 << 16;
-    const LONG_SERIAL: u32 = 0x3201_0000;
-    const MESSAGE: &'static [u8; 50] = b"Must use __system_property_read_callback() to read";
-    const MESSAGE_SIZE: usize = 56;
-}
-
-/// Bytes of a value slot, and of the backup slot: a value with its zero.
-const SLOT_SIZE: usize = 92;
-const BACKUP: usize = Header::SIZE + Node::SIZE;
-const LONGEST: usize = 131_072;
-const FRESH_USED: u32 = 112;
 
 fn word(area: &[u8], at: usize) -> u32 {
     u32::from_le_bytes([area[at], area[at + 1], area[at + 2], area[at + 3]])
@@ -366,11 +326,11 @@ pub fn backup_read(area: &[u8], buffer: &mut [u8]) -> Answer<()> {
 }
 
 pub fn format(area: &mut [u8]) -> Answer<()> {
-    if !(Header::SIZE + FRESH_USED as usize..=LONGEST).contains(&area.len()) {
+    if !(Header::SIZE + FIRST_FREE..=LONGEST).contains(&area.len()) {
         return Err(Refusal::Header);
     }
     area.fill(0);
-    put(area, Header::USED, FRESH_USED);
+    put(area, Header::USED, FIRST_FREE as u32);
     area[Header::MAGIC..Header::VERSION].copy_from_slice(Header::PROP);
     put(area, Header::VERSION, Header::VERSION_WORD);
     Ok(())

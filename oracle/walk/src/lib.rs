@@ -4,33 +4,7 @@
 //! stands at the top of crates/audit/src/lib.rt. It is no judge: that is `checker`, which was written from document 01 alone.
 
 use calls::{Audit, Count};
-
-const HEADER_SIZE: usize = 128;
-const MAGIC: usize = 8;
-const VERSION: usize = 12;
-/// The first offset behind root and backup slot.
-const FIRST_FREE: usize = 112;
-
-struct Node;
-
-impl Node {
-    const NAMELEN: usize = 0;
-    const PROP: usize = 4;
-    const LEFT: usize = 8;
-    const RIGHT: usize = 12;
-    const CHILDREN: usize = 16;
-    const SIZE: usize = 20;
-}
-
-struct Entry;
-
-impl Entry {
-    const SERIAL: usize = 0;
-    const SLOT: usize = 4;
-    const LONG_OFFSET: usize = 60;
-    const SIZE: usize = 96;
-    const LONG_BIT: usize = 1 << 16;
-}
+use layout::{Entry, Header, Node, FIRST_FREE, LONGEST};
 
 /// Bytes of the data for each step of the walk: a node takes 24 at least, and four steps.
 const STEP: usize = 6;
@@ -82,7 +56,7 @@ fn word_at(area: &[u8], at: usize) -> usize {
 
 /// A field of the node in word `node` of the data.
 fn field(area: &[u8], node: usize, field: usize) -> usize {
-    word_at(area, HEADER_SIZE + node * 4 + field)
+    word_at(area, Header::SIZE + node * 4 + field)
 }
 
 /// The words of the node at an offset, or 0 if no node can stand there.
@@ -96,14 +70,14 @@ fn node_room(area: &[u8], used: usize, at: usize) -> usize {
     if used < at + Node::SIZE {
         return 0;
     }
-    let size = word_at(area, HEADER_SIZE + at + Node::NAMELEN);
+    let size = word_at(area, Header::SIZE + at + Node::NAMELEN);
     if size == 0 {
         return 0;
     }
     if used < at + Node::SIZE + size + 1 {
         return 0;
     }
-    let name = HEADER_SIZE + at + Node::SIZE;
+    let name = Header::SIZE + at + Node::SIZE;
     if area[name..name + size].iter().any(|&byte| byte == 0 || byte == b'.') {
         return 0;
     }
@@ -121,7 +95,7 @@ fn text_end(area: &[u8], used: usize, at: usize, from: usize) -> usize {
     if at < FIRST_FREE {
         return 0;
     }
-    let end = HEADER_SIZE + used;
+    let end = Header::SIZE + used;
     if end <= from {
         return 0;
     }
@@ -136,7 +110,7 @@ fn less(area: &[u8], p: usize, q: usize) -> bool {
     if size != other {
         return size < other;
     }
-    let [a, b] = [p, q].map(|node| HEADER_SIZE + node * 4 + Node::SIZE);
+    let [a, b] = [p, q].map(|node| Header::SIZE + node * 4 + Node::SIZE);
     area[a..a + size] < area[b..b + size]
 }
 
@@ -157,7 +131,7 @@ fn is_path(area: &[u8], marks: &[u8], node: usize, from: usize, to: usize) -> bo
             return false;
         }
         end -= size;
-        if !same_at(area, end, HEADER_SIZE + node * 4 + Node::SIZE, size) {
+        if !same_at(area, end, Header::SIZE + node * 4 + Node::SIZE, size) {
             return false;
         }
         node = read_number(marks, node + 3);
@@ -186,8 +160,8 @@ enum Own {
 
 /// Whether a value is as it ought to be: a slot with a zero, or a text behind the entry's words, whose words it takes.
 fn value_work(area: &[u8], marks: &mut [u8], used: usize, at: usize, words: usize) -> bool {
-    let record = HEADER_SIZE + at;
-    if word_at(area, record + Entry::SERIAL) & Entry::LONG_BIT == 0 {
+    let record = Header::SIZE + at;
+    if word_at(area, record + Entry::SERIAL) & Entry::LONG_BIT as usize == 0 {
         return area[record + Entry::SLOT..record + Entry::SIZE].contains(&0);
     }
     let relative = word_at(area, record + Entry::LONG_OFFSET);
@@ -195,16 +169,16 @@ fn value_work(area: &[u8], marks: &mut [u8], used: usize, at: usize, words: usiz
         return false;
     }
     let far = at + relative;
-    let zero = text_end(area, used, far, HEADER_SIZE + far);
+    let zero = text_end(area, used, far, Header::SIZE + far);
     if zero == 0 {
         return false;
     }
-    take(marks, far / 4, (zero + 1 - (HEADER_SIZE + far)).div_ceil(4))
+    take(marks, far / 4, (zero + 1 - (Header::SIZE + far)).div_ceil(4))
 }
 
 /// Whether the entry at an offset is the node's: its name the node's path, its words free; it takes them.
 fn entry_work(area: &[u8], marks: &mut [u8], used: usize, node: usize, at: usize) -> bool {
-    let from = HEADER_SIZE + at + Entry::SIZE;
+    let from = Header::SIZE + at + Entry::SIZE;
     let zero = text_end(area, used, at, from);
     if zero == 0 {
         return false;
@@ -212,7 +186,7 @@ fn entry_work(area: &[u8], marks: &mut [u8], used: usize, node: usize, at: usize
     if !is_path(area, marks, node, from, zero) {
         return false;
     }
-    let words = (zero + 1 - (HEADER_SIZE + at)).div_ceil(4);
+    let words = (zero + 1 - (Header::SIZE + at)).div_ceil(4);
     if !take(marks, at / 4, words) {
         return false;
     }
@@ -326,7 +300,7 @@ fn tour(area: &[u8], marks: &mut [u8], list: &mut [u32], used: usize) -> Option<
     let mut entries = 0;
     let first = field(area, 0, Node::CHILDREN);
     let mut w = go(area, marks, used, here(0, 1, 0, 0), first);
-    for _ in 0..(area.len() - HEADER_SIZE) / STEP {
+    for _ in 0..(area.len() - Header::SIZE) / STEP {
         if w.cur == 0 {
             break;
         }
@@ -346,7 +320,7 @@ fn front_ok(area: &[u8], used: usize) -> bool {
     if used < FIRST_FREE {
         return false;
     }
-    if area.len() - HEADER_SIZE < used {
+    if area.len() - Header::SIZE < used {
         return false;
     }
     [Node::NAMELEN, Node::PROP, Node::LEFT, Node::RIGHT].iter().all(|&of_root| field(area, 0, of_root) == 0)
@@ -355,7 +329,7 @@ fn front_ok(area: &[u8], used: usize) -> bool {
 /// Walks over an area that has an area's header, with scratch enough, and notes its entries in the list; scratch ends zero.
 fn survey(area: &[u8], scratch: &mut [u8], list: &mut [u32]) -> Result<usize, u32> {
     scratch.fill(0);
-    let used = word_at(area, 0);
+    let used = word_at(area, Header::USED);
     if !front_ok(area, used) {
         return Err(DAMAGED);
     }
@@ -370,12 +344,15 @@ pub struct Walk {
 }
 
 impl Walk {
-    pub const DOCUMENT: Walk = Walk { longest: 131_072 };
+    pub const DOCUMENT: Walk = Walk { longest: LONGEST };
 
     /// How many entries an area has, with the tests that check and listing begin with.
     fn count(&self, area: &[u8], scratch: &mut [u8]) -> Result<usize, u32> {
-        let long_enough = (HEADER_SIZE..=self.longest).contains(&area.len());
-        if !long_enough || area[MAGIC..VERSION] != *b"PROP" || word_at(area, VERSION) != 0xfc6e_d0ab {
+        let long_enough = (Header::SIZE..=self.longest).contains(&area.len());
+        if !long_enough
+            || area[Header::MAGIC..Header::VERSION] != *Header::PROP
+            || word_at(area, Header::VERSION) != Header::VERSION_WORD as usize
+        {
             return Err(BAD_HEADER);
         }
         if scratch.len() < area.len() / 4 {
