@@ -81,7 +81,7 @@ module _ (area name : List ℕ) where
 
 -- ---- a turn: the line goes on, or has ended
 module _ (area input : List ℕ) (from : ℕ) (line : List ℕ) (have : ℕ) (out : List ℕ) (at : ℕ) (has next : ℕ) (ended : Bool) (grown : List ℕ)
-    (e : fed has next ended grown ≡ feed input from line have) where
+    (e : fed (saying has grown) next ended ≡ feed input from line have) where
   pub turn-on : ended ≡ false → turned has next grown (saying at out) ≡ turnSteps area input from line have out at
   unfolding turnSteps
   turn-on f = rw (← e, f)

@@ -54,7 +54,7 @@ module _ (area input : List ℕ) (from : ℕ) (line : List ℕ) (have : ℕ) (ou
   unfolding turnSteps
   turn-within a h f = by (feed input from line have) refl e
     where
-      rest : (k n : ℕ) (ended : Bool) (l : List ℕ) → feed input from line have ≡ fed k n ended l → next ≡ n → grown ≡ l → has ≤ k → Within out after told → TurnWithin
+      rest : (k n : ℕ) (ended : Bool) (l : List ℕ) → feed input from line have ≡ fed (saying k l) n ended → next ≡ n → grown ≡ l → has ≤ k → Within out after told → TurnWithin
       rest k n ended l is m g z w =
           let fits = feed-fits input from line have k n ended l (sym is) in
           record {
@@ -66,11 +66,11 @@ module _ (area input : List ℕ) (from : ℕ) (line : List ℕ) (have : ℕ) (ou
           }
 
       by : (state : Fed) → feed input from line have ≡ state → turned has next grown (saying told after) ≡ turnFed area out at state → TurnWithin
-      by (fed k n true l) is q =
+      by (fed (saying k l) n true) is q =
           let z : has ≡ 0 = cc in
           let w = said-within out at (answerText area (take k l)) told after (cc) in
           rest k n true l is (cc) (cc) (omega arith) (record { place = w .0; size = w .1 })
-      by (fed k n false l) is q =
+      by (fed (saying k l) n false) is q =
           let z : has ≡ k = cc in
           let t : told ≡ at = cc in
           let o : after ≡ out = cc in

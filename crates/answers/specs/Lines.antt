@@ -27,8 +27,8 @@ pub data Turned : Type 0 where
 
 -- a line that has ended is a name, and the next begins
 abbrev pub turnFed : List ℕ → List ℕ → ℕ → Fed → Turned
-turnFed area out at (fed have next true line) = turned 0 next line (said out at (answerText area (take have line)))
-turnFed area out at (fed have next false line) = turned have next line (saying at out)
+turnFed area out at (fed (saying have line) next true) = turned 0 next line (said out at (answerText area (take have line)))
+turnFed area out at (fed (saying have line) next false) = turned have next line (saying at out)
 
 unfoldable pub turnSteps : (area input : List ℕ) → ℕ → List ℕ → ℕ → List ℕ → ℕ → Turned
 turnSteps area input from line have out at = turnFed area out at (feed input from line have)

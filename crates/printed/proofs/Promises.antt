@@ -23,8 +23,8 @@ use Rattle.printed.proofs.Serving.{turn-serves, turn-holds, turn-says, 
 
 -- ---- the lookup
 fed-small : (area : List ℕ) (got : Fed) → length (fedText area got) ≤ textMax
-fed-small area (fed have next true line) = answer-small area (take have line)
-fed-small area (fed have next false line) = omega arith
+fed-small area (fed (saying have line) next true) = answer-small area (take have line)
+fed-small area (fed (saying have line) next false) = omega arith
 
 pub turn-whole : (area input : List ℕ) (from : ℕ) (line : List ℕ) (have : ℕ) (out : List ℕ) (at has next : ℕ) (grown : List ℕ) (told : ℕ) (after : List ℕ)
     → turned has next grown (saying told after) ≡ turnSteps area input from line have out at → at + textMax ≤ length out

@@ -1,12 +1,12 @@
 -- The lookup over an input that comes in pieces says what it says for the whole input: turn by turn, then at the end, then over a run.
 use Prim.Native.Nat.{ℕ, suc, _+_, _-_, _≤_, _<_, min}
 use mathlib.Core.Path.{_≡_, refl, sym, ap, _∙_}
-use mathlib.Core.Bool.{Bool, true, false}
+use mathlib.Core.Bool.{true, false}
 use mathlib.Core.List.{List, [], _∷_, _++_, append-assoc, append-nil}
 use native.Mathlib.Numerals.{add-one}
 use native.Mathlib.Omega.{arith}
 use borrow.Author.Tests.{lt-leb, ne-eqb, leb-true, leb-false, ltb-true}
-use lib.Dec.{leb, ltb}
+use lib.Dec.{leb}
 use lib.ListN.{length, getD, take, drop, length-append, length-take, length-drop, take-append-drop, drop-of-length-le}
 use lib.Seq.{length-take-le, take-all, drop-cons, drop-drop, getD-take, getD-drop}
 use Rattle.words.specs.Words.{part}
@@ -16,7 +16,7 @@ use Rattle.names.specs.Names.{onFirst}
 use Rattle.sound.specs.Sound.{Without}
 use Rattle.sound.proofs.Holding.{without-append}
 use Rattle.texts.specs.Text.{Said, saying, said, lineFeed, pieceEnd, Fed, fed, feed}
-use Rattle.texts.proofs.Laws.{said-none}
+use Rattle.texts.proofs.Laws.{said-none, fed-parts}
 use Rattle.texts.proofs.Promises.{line-says, ended-says}
 use Rattle.answers.specs.Answers.{nameMax, askSteps, answerText}
 use Rattle.answers.specs.Lines.{namesIn, answersText, lookupText, turned, turnFed, turnSteps}
@@ -125,39 +125,30 @@ module _ (input : List ℕ) (from : ℕ) where
   piece-whole e = sym (take-all (pieceEnd input from - from) (drop from input) (rw (length-drop, e) (omega arith)))
 
 -- ---- a turn, by what became of the line
-module _ (input line : List ℕ) (from have : ℕ) (f : from ≤ length input) where
-  fed-on : (has next : ℕ) (ended : Bool) (grown : List ℕ) → fed has next ended grown ≡ feed input from line have
-      → (next ≡ min (pieceEnd input from + 1) (length input)) × (ended ≡ ltb (pieceEnd input from) (length input))
-  unfolding feed
-  fed-on has next ended grown e =
-      let a : min from (length input) ≡ from = omega arith in
-      let q = rw a at e in
-      ((cc), (cc))
+module _ (input line : List ℕ) (from have : ℕ) (f : from ≤ length input) (h : have ≤ length line) (w : Without lineFeed (take have line)) where
+  all-without : Without lineFeed (take have line ++ pieceOf input from)
+  all-without = without-append lineFeed (take have line) (pieceOf input from) w (piece-without input from)
 
-  module _ (h : have ≤ length line) (w : Without lineFeed (take have line)) where
-    all-without : Without lineFeed (take have line ++ pieceOf input from)
-    all-without = without-append lineFeed (take have line) (pieceOf input from) w (piece-without input from)
+  fed-holds : (got : Fed) → got ≡ feed input from line have → Without lineFeed (fedHeld got)
+  fed-holds (fed (saying has grown) next true) e = λ k l. absurd (omega arith)
+  fed-holds (fed (saying has grown) next false) e =
+      rw (line-says input from line have has next false grown e f h) (without-take lineFeed (length line) (take have line ++ pieceOf input from) all-without)
 
-    fed-holds : (got : Fed) → got ≡ feed input from line have → Without lineFeed (fedHeld got)
-    fed-holds (fed has next true grown) e = λ k l. absurd (omega arith)
-    fed-holds (fed has next false grown) e =
-        rw (line-says input from line have has next false grown e f h) (without-take lineFeed (length line) (take have line ++ pieceOf input from) all-without)
-
-    module _ (area later : List ℕ) (room : nameMax < length line) where
-      fed-serves : (got : Fed) → got ≡ feed input from line have
-          → lookupText area (take have line ++ (drop from input ++ later)) ≡ fedText area got ++ lookupText area (fedHeld got ++ (drop (fedNext got) input ++ later))
-      fed-serves (fed has next true grown) e =
-          let on = fed-on has next true grown e in
-          let more : pieceEnd input from < length input = ltb-true (pieceEnd input from) (length input) (sym (on .1)) in
-          let n : next ≡ pieceEnd input from + 1 = omega (arith, on .0) in
-          let there : getD input (pieceEnd input from) 0 ≡ lineFeed = ended-says input from line have has next true grown e f h .0 refl in
-          rw (n, piece-ended input from more there, line-says input from line have has next true grown e f h)
-          (line-serves area (take have line) (pieceOf input from) later (length line) room all-without (drop (pieceEnd input from + 1) input))
-      fed-serves (fed has next false grown) e =
-          let all : pieceEnd input from ≡ length input = ended-says input from line have has next false grown e f h .1 refl in
-          let n : length input ≤ next = omega (arith, fed-on has next false grown e .0) in
-          rw (drop-of-length-le input {i = next} n, piece-whole input from all, line-says input from line have has next false grown e f h)
-          (held-serves area (take have line) (pieceOf input from) later (length line) room all-without)
+  module _ (area later : List ℕ) (room : nameMax < length line) where
+    fed-serves : (got : Fed) → got ≡ feed input from line have
+        → lookupText area (take have line ++ (drop from input ++ later)) ≡ fedText area got ++ lookupText area (fedHeld got ++ (drop (fedNext got) input ++ later))
+    fed-serves (fed (saying has grown) next true) e =
+        let on = fed-parts input from line have e in
+        let more : pieceEnd input from < length input = ltb-true (pieceEnd input from) (length input) (sym (on .2)) in
+        let n : next ≡ pieceEnd input from + 1 = omega (arith, on .1) in
+        let there : getD input (pieceEnd input from) 0 ≡ lineFeed = ended-says input from line have has next true grown e f h .0 refl in
+        rw (n, piece-ended input from more there, line-says input from line have has next true grown e f h)
+        (line-serves area (take have line) (pieceOf input from) later (length line) room all-without (drop (pieceEnd input from + 1) input))
+    fed-serves (fed (saying has grown) next false) e =
+        let all : pieceEnd input from ≡ length input = ended-says input from line have has next false grown e f h .1 refl in
+        let n : length input ≤ next = omega (arith, fed-parts input from line have e .1) in
+        rw (drop-of-length-le input {i = next} n, piece-whole input from all, line-says input from line have has next false grown e f h)
+        (held-serves area (take have line) (pieceOf input from) later (length line) room all-without)
 
 -- ---- what is held and left to read has the turn's text, then that of what is held and left afterwards; no line feed is held
 pub turn-serves : (area input line : List ℕ) (from have : ℕ) → nameMax < length line → from ≤ length input → have ≤ length line
@@ -178,8 +169,8 @@ unfolding turnSteps
 turn-says area input line out from have at has next grown s h e = by (feed input from line have) e
   where
     by : (got : Fed) → turned has next grown s ≡ turnFed area out at got → (s ≡ said out at (fedText area got)) × (take has grown ≡ fedHeld got) × (next ≡ fedNext got)
-    by (fed kept on true full) q = let z : has ≡ 0 = cc in ((cc), rw z, (cc))
-    by (fed kept on false full) q = let t : s ≡ saying at out = cc in (t ∙ said-none out at h, (cc), (cc))
+    by (fed (saying kept full) on true) q = let z : has ≡ 0 = cc in ((cc), rw z, (cc))
+    by (fed (saying kept full) on false) q = let t : s ≡ saying at out = cc in (t ∙ said-none out at h, (cc), (cc))
 
 -- ---- the input's end, and a run from what is held to there: all that is said is the text of the whole input
 pub end-serves : (area held : List ℕ) → Without lineFeed held → lookupText area held ≡ endText area held

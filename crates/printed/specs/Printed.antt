@@ -9,7 +9,7 @@ use Rattle.layout.specs.Refusals.{numberOf}
 use Rattle.sound.specs.Tree.{Entry, bare, entry, Tree, leaf, node, listed}
 use Rattle.finding.specs.Look.{shows}
 use Rattle.audit.specs.Check.{usedOf, Judged, sound, unsound}
-use Rattle.texts.specs.Text.{escaped, Fed, fed, feed}
+use Rattle.texts.specs.Text.{escaped, saying, Fed, fed, feed}
 use Rattle.answers.specs.Answers.{nameMax, opening, between, closing, refusedText, fileOk, answerText, headText}
 
 -- ---- the lines of a tree's entries, in listing order
@@ -31,15 +31,15 @@ fileDump area judged = cond (fileOk area) (judgedDump area judged) (refusedText 
 
 -- ---- what a turn says, what is then held of the next line, and where the input goes on
 abbrev pub fedText : List ℕ → Fed → List ℕ
-fedText area (fed have next true line) = answerText area (take have line)
-fedText area (fed have next false line) = []
+fedText area (fed (saying have line) next true) = answerText area (take have line)
+fedText area (fed (saying have line) next false) = []
 
 abbrev pub fedHeld : Fed → List ℕ
-fedHeld (fed have next true line) = []
-fedHeld (fed have next false line) = take have line
+fedHeld (fed (saying have line) next true) = []
+fedHeld (fed (saying have line) next false) = take have line
 
 abbrev pub fedNext : Fed → ℕ
-fedNext (fed have next ended line) = next
+fedNext (fed line next ended) = next
 
 abbrev pub endText : List ℕ → List ℕ → List ℕ
 endText area held = cond (eqb (length held) 0) [] (answerText area held)

@@ -1,17 +1,17 @@
 -- Laws of specs/Text.antt, one for each way out of the code: which bytes are shown, digits, a byte's stores, a turn of the escaping loop, a piece fed.
 use Prim.Native.Nat.{ℕ, zero, suc, _+_, _-_, _/_, _%_, min, _≤_, _<_}
 use mathlib.Core.Path.{_≡_, refl, sym, ap, _∙_}
-use mathlib.Core.Bool.{true, false, not}
+use mathlib.Core.Bool.{Bool, true, false, not}
 use mathlib.Core.List.{List, [], _∷_, _++_, append-nil}
-use native.Mathlib.Nat.{zero-add, add-zero, add-assoc, add-sub-cancel-left}
+use native.Mathlib.Nat.{zero-add, add-zero, add-assoc, sub-self}
 use native.Mathlib.Numerals.{add-one}
 use native.Mathlib.Omega.{arith}
 use borrow.Author.Tests.{lt-ltb, le-ltb, le-leb, lt-leb, leb-true, leb-false}
 use lib.Dec.{eqb, leb, ltb}
-use lib.ListN.{length, getD, set, take, drop, length-append, length-set, length-take, drop-of-length-le}
-use lib.Seq.{append-snoc, take-suc-set, take-all, take-take, drop-cons, set-out}
+use lib.ListN.{length, getD, set, take, drop, length-append, length-set, drop-of-length-le}
+use lib.Seq.{append-snoc, take-suc-set, take-all, drop-cons, set-out}
 use Rattle.words.specs.Words.{part, put}
-use Rattle.words.proofs.Laws.{bool-cases, put-length, part-length, first-low, first-high}
+use Rattle.words.proofs.Laws.{bool-cases, put-length, first-end, first-low, first-high}
 use Rattle.words.proofs.StoreLaws.{put-append}
 use Rattle.texts.specs.Text.{backslash, isShown, hexDigit, escapedByte, escaped, saying, said, lineFeed, pieceEnd, fed, feed}
 
@@ -157,14 +157,7 @@ module _ (text out : List ℕ) (next : ℕ) where
   unfolding escaped
   said-end taken h k = rw (drop-of-length-le text {i = taken} h) (said-none out next k)
 
--- ---- a piece, as far as it fits
-take-min : (k n : ℕ) (s : List ℕ) → take k (take n s) ≡ take (min n k) s
-take-min k n s =
-    bool-cases (leb k n)
-    (λ t. let h : k ≤ n = leb-true k n t in let e : min n k ≡ k = omega arith in rw e (take-take k n s h))
-    (λ t. let h : n < k = leb-false k n t in let e : min n k ≡ n = omega arith in rw e (take-all k (take n s) (rw length-take (omega arith))))
-
--- it ends no earlier than it starts, and within the input
+-- ---- a piece ends no earlier than it starts, and within the input
 module _ (input : List ℕ) (start end : ℕ) where
   pub end-low : end ≡ pieceEnd input start → start ≤ end
   end-low e = rw e (first-low lineFeed input start (length input - start))
@@ -172,11 +165,25 @@ module _ (input : List ℕ) (start end : ℕ) where
   pub end-high : start ≤ length input → end ≡ pieceEnd input start → end ≤ length input
   end-high a e = rw e (omega (arith, first-high lineFeed input start (length input - start)))
 
+-- said behind what the line has, it is fed; from past the input's end on it is empty
 module _ (input : List ℕ) (from : ℕ) (line : List ℕ) (have : ℕ) where
-  pub feed-says : (start had end kept next : ℕ) (after : List ℕ) → start ≡ min from (length input) → had ≡ min have (length line) → end ≡ pieceEnd input start
-      → kept ≡ min (end - start) (length line - had) → next ≡ min (end + 1) (length input) → after ≡ put line had (take (start + kept - start) (drop start input))
-      → fed (had + kept) next (ltb end (length input)) after ≡ feed input from line have
+  pub feed-says : (start end has next : ℕ) (after : List ℕ) → start ≡ min from (length input) → end ≡ pieceEnd input start
+      → saying has after ≡ said line have (part input start end) → next ≡ min (end + 1) (length input)
+      → fed (saying has after) next (ltb end (length input)) ≡ feed input from line have
   unfolding feed
-  feed-says start had end kept next after a b e k n p =
-      let l : length (part input start end) ≡ end - start = part-length input start end (end-low input start end e) (end-high input start end (omega arith) e) in
-      rw (p, n, add-sub-cancel-left, k, ← a, ← b, ← e, l, take-min)
+  feed-says start end has next after s e f n =
+      bool-cases (leb from (length input))
+      (λ t. let a : start ≡ from = omega (arith, leb-true from (length input) t) in rw (f, n, e, a))
+      (λ t.
+      let l : length input < from = leb-false from (length input) t in
+      let b : end ≡ start = e ∙ first-end lineFeed input start (length input) (omega arith) in
+      let c : pieceEnd input from ≡ from = first-end lineFeed input from (length input) (omega arith) in
+      let m : next ≡ min (from + 1) (length input) = omega arith in
+      rw (f, m, b, c, le-ltb start (length input) (omega arith), le-ltb from (length input) (omega arith), sub-self start, sub-self from))
+
+  -- and what is fed, part by part
+  pub fed-parts : {has next : ℕ} {ended : Bool} {after : List ℕ} → fed (saying has after) next ended ≡ feed input from line have
+      → (saying has after ≡ said line have (part input from (pieceEnd input from))) × (next ≡ min (pieceEnd input from + 1) (length input))
+      × (ended ≡ ltb (pieceEnd input from) (length input))
+  unfolding feed
+  fed-parts e = ((cc), (cc), (cc))

@@ -10,11 +10,11 @@ use lib.Dec.{ltb}
 use lib.ListN.{length, getD, take, length-append, length-take}
 use lib.Seq.{length-take-le, take-append-add}
 use Rattle.words.specs.Words.{part, put}
-use Rattle.words.proofs.Laws.{bool-cases, put-length, first-low, first-high}
+use Rattle.words.proofs.Laws.{bool-cases, first-low, first-high}
 use Rattle.words.proofs.Promises.{first-there}
-use Rattle.texts.specs.Text.{escapedByte, escaped, digit, decimalIn, saying, said, lineFeed, pieceEnd, fed, feedFrom, feed}
+use Rattle.texts.specs.Text.{escapedByte, escaped, digit, decimalIn, saying, said, lineFeed, pieceEnd, fed, feed}
 use Rattle.texts.specs.declared.Piece.{Piece}
-use Rattle.texts.proofs.Laws.{put-front, byte-few}
+use Rattle.texts.proofs.Laws.{put-cut, said-within, put-front, byte-few, fed-parts}
 
 -- ---- a text escaped piece by piece is the text escaped
 pub escaped-append : (a b : List ℕ) → escaped (a ++ b) ≡ escaped a ++ escaped b
@@ -69,66 +69,48 @@ pub one-said : (out : List ℕ) (at : ℕ) (text : List ℕ) (r s : ℕ) (a b : 
 one-said out at text r s a b p q = let e : saying r a ≡ saying s b = p ∙ sym q in ((cc), (cc))
 
 -- ---- a line
-fit-front : (line : List ℕ) (have : ℕ) (piece : List ℕ) → have ≤ length line
-    → take (have + min (length piece) (length line - have)) (put line have (take (length line - have) piece)) ≡ take (length line) (take have line ++ piece)
-fit-front line have piece h =
-    let l : length (take (length line - have) piece) ≡ min (length piece) (length line - have) = length-take (length line - have) piece ∙ omega arith in
+fit-front : (line : List ℕ) (have : ℕ) (piece : List ℕ) (has : ℕ) (out : List ℕ) → have ≤ length line → saying has out ≡ said line have piece
+    → take has out ≡ take (length line) (take have line ++ piece)
+unfolding said
+fit-front line have piece has out h e =
+    let m : has ≡ min (have + length piece) (length line) = cc in
+    let p : out ≡ put line have piece = cc in
+    let l = length-take (length line - have) piece in
+    let n : has ≡ have + length (take (length line - have) piece) = omega arith in
     let k : length (take have line) + (length line - have) ≡ length line = rw (length-take-le have line h) (omega arith) in
-    rw (← l) (put-front line have (take (length line - have) piece) (rw l (omega arith))
+    rw (p, ← (put-cut line have piece (length line - have) (omega arith)), n) (put-front line have (take (length line - have) piece) (omega arith)
     ∙ sym (take-append-add (take have line) piece (length line - have)) ∙ rw k)
 
 module _ (input : List ℕ) (from : ℕ) (line : List ℕ) (have : ℕ) where
-  module _ (has next : ℕ) (ended : Bool) (out : List ℕ) (e : fed has next ended out ≡ feed input from line have) where
+  module _ (has next : ℕ) (ended : Bool) (out : List ℕ) (e : fed (saying has out) next ended ≡ feed input from line have) where
     -- a line has no more than its length, which stays, and the input goes on within itself
     pub feed-fits : (has ≤ length out) × (length out ≡ length line) × (next ≤ length input)
-    unfolding feed
     feed-fits =
-        let start : ℕ = min from (length input) in
-        let had : ℕ = min have (length line) in
-        let piece : List ℕ = part input start (pieceEnd input start) in
-        let o : out ≡ put line had (take (length line - had) piece) = cc in
-        let l : length out ≡ length line = rw o (put-length line had (take (length line - had) piece)) in
-        let n : has ≡ had + min (length piece) (length line - had) = cc in
-        let m : next ≡ min (pieceEnd input start + 1) (length input) = cc in
-        (omega arith, l, omega arith)
+        let w = said-within line have (part input from (pieceEnd input from)) has out (fed-parts input from line have e .0) in
+        (w .0, w .1, omega (arith, fed-parts input from line have e .1))
 
     module _ (f : from ≤ length input) (h : have ≤ length line) where
-      fed-from : fed has next ended out ≡ feedFrom input from line have
-      unfolding feed
-      fed-from =
-          let a : min from (length input) ≡ from = omega arith in
-          let b : min have (length line) ≡ have = omega arith in
-          rw (a, b) at e
-
       -- what a line has is what it had and the piece, as far as they fit
       pub line-says : take has out ≡ take (length line) (take have line ++ part input from (pieceEnd input from))
-      line-says =
-          let q = fed-from in
-          let n : has ≡ have + min (length (part input from (pieceEnd input from))) (length line - have) = cc in
-          let o : out ≡ put line have (take (length line - have) (part input from (pieceEnd input from))) = cc in
-          rw (n, o) (fit-front line have (part input from (pieceEnd input from)) h)
+      line-says = fit-front line have (part input from (pieceEnd input from)) has out h (fed-parts input from line have e .0)
 
       -- the input goes on behind the piece
       pub next-moves : from < length input → from < next
-      next-moves more =
-          let q = fed-from in
-          let n : next ≡ min (pieceEnd input from + 1) (length input) = cc in
-          omega (arith, first-low lineFeed input from (length input - from))
+      next-moves more = omega (arith, fed-parts input from line have e .1, first-low lineFeed input from (length input - from))
 
       -- an ended line ended at a line feed, another at the input's end
       pub ended-says : (ended ≡ true → getD input (pieceEnd input from) 0 ≡ lineFeed) × (ended ≡ false → pieceEnd input from ≡ length input)
       ended-says =
-          let q = fed-from in
-          let t : ended ≡ ltb (pieceEnd input from) (length input) = cc in
+          let t = fed-parts input from line have e .2 in
           let high = first-high lineFeed input from (length input - from) in (
             λ y. first-there lineFeed input from (length input - from) (omega (arith, ltb-true (pieceEnd input from) (length input) (sym t ∙ y))),
             λ n. omega (arith, high, ltb-false (pieceEnd input from) (length input) (sym t ∙ n)),
           )
 
-  pub one-fed : (r s : Piece) (a b : List ℕ) → fed (r .have) (r .next) (r .ended) a ≡ feed input from line have
-      → fed (s .have) (s .next) (s .ended) b ≡ feed input from line have → (r ≡ s) × (a ≡ b)
+  pub one-fed : (r s : Piece) (a b : List ℕ) → fed (saying (r .have) a) (r .next) (r .ended) ≡ feed input from line have
+      → fed (saying (s .have) b) (s .next) (s .ended) ≡ feed input from line have → (r ≡ s) × (a ≡ b)
   one-fed r s a b p q =
-      let e : fed (r .have) (r .next) (r .ended) a ≡ fed (s .have) (s .next) (s .ended) b = p ∙ sym q in
+      let e : fed (saying (r .have) a) (r .next) (r .ended) ≡ fed (saying (s .have) b) (s .next) (s .ended) = p ∙ sym q in
       (one (r .have) (s .have) (r .next) (s .next) (r .ended) (s .ended) (cc) (cc) (cc), (cc))
     where
       one : (t u m n : ℕ) (v w : Bool) → t ≡ u → m ≡ n → v ≡ w

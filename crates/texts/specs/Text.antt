@@ -2,7 +2,7 @@
 use Prim.Native.Nat.{ℕ, zero, suc, _+_, _-_, _/_, _%_, min}
 use mathlib.Core.Bool.{Bool, cond, not, _&&_}
 use mathlib.Core.List.{List, [], _∷_, _++_}
-use lib.ListN.{length, take}
+use lib.ListN.{length}
 use lib.Dec.{eqb, leb, ltb}
 use Rattle.words.specs.Words.{part, firstIn, put}
 
@@ -55,18 +55,11 @@ lineFeed = 10
 abbrev pub pieceEnd : List ℕ → ℕ → ℕ
 pieceEnd input from = firstIn lineFeed input from (length input - from)
 
--- bytes that the line has, where the input goes on, whether the line has ended, the line
+-- what the line then has, where the input goes on, whether the line has ended
 pub data Fed : Type 0 where
-  fed : ℕ → ℕ → Bool → List ℕ → Fed
+  fed : Said → ℕ → Bool → Fed
 
--- the piece is put behind what the line has; what does not fit is dropped, and the line is then full
-abbrev pub feedPiece : List ℕ → ℕ → List ℕ → ℕ → List ℕ → Fed
-feedPiece input end line have piece =
-    fed (have + min (length piece) (length line - have)) (min (end + 1) (length input)) (ltb end (length input)) (put line have (take (length line - have) piece))
-
-abbrev pub feedFrom : List ℕ → ℕ → List ℕ → ℕ → Fed
-feedFrom input from line have = feedPiece input (pieceEnd input from) line have (part input from (pieceEnd input from))
-
--- a place past the input's end is its end, and a line has no more than its length
+-- the piece is said behind what the line has; what does not fit is dropped, and the line is then full
 unfoldable pub feed : List ℕ → ℕ → List ℕ → ℕ → Fed
-feed input from line have = feedFrom input (min from (length input)) line (min have (length line))
+feed input from line have =
+    fed (said line have (part input from (pieceEnd input from))) (min (pieceEnd input from + 1) (length input)) (ltb (pieceEnd input from) (length input))

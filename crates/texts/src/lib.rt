@@ -101,15 +101,13 @@ pub struct Piece {
 
 // Puts the input from a place up to its next line feed behind what a line has. What does not fit is dropped: the line is then full.
 pub fn assemble(input: &[u8], from: usize, line: &mut [u8], have: usize) -> Piece
-    ensures { λ r. ⌜ fed (r .have) (r .next) (r .ended) (now (line .exit)) ≡ feed (now (input .entry)) from (now (line .entry)) have ⌝ }
+    ensures { λ r. ⌜ fed (saying (r .have) (now (line .exit))) (r .next) (r .ended) ≡ feed (now (input .entry)) from (now (line .entry)) have ⌝ }
 {
     let start = fit(from, input.len());
-    let had = fit(have, line.len());
     let end = words::first(input, b'\n', start, input.len());
-    let kept = fit(end - start, line.len() - had);
-    words::copy(line, had, &input[start..start + kept]);
+    let has = say(line, have, &input[start..end]);
     Piece {
-        have: had + kept,
+        have: has,
         next: behind(end, input.len()),
         ended: end < input.len(),
     }
