@@ -1,9 +1,11 @@
--- The programs' buffers begin as zeros: what holds of a number holds of the length of so many. And a place that is not where it was has moved on.
+-- The programs' buffers begin as zeros: what holds of a number holds of the length of so many. A place that is not where it was has moved on.
+-- What is owed, said in two parts; and owed for the rest of an input that has ended.
 use Prim.Native.Nat.{ℕ, _≤_, _<_}
-use mathlib.Core.Path.{_≡_, sym, subst}
+use mathlib.Core.Path.{_≡_, sym, _∙_, subst}
+use mathlib.Core.List.{List, _++_, append-assoc}
 use native.Mathlib.Decide.{decLt}
 use native.Mathlib.Omega.{arith}
-use lib.ListN.{length, replicate, length-replicate}
+use lib.ListN.{length, drop, replicate, length-replicate, drop-of-length-le}
 
 pub lends : (P : ℕ → Type 0) (size : ℕ) → P size → P (length {A = ℕ} (replicate size 0))
 lends P size h = subst P (sym (length-replicate {A = ℕ} size 0)) h
@@ -14,3 +16,11 @@ moved-on from next h stays = by (decLt from next)
     by : Dec (from < next) → from < next
     by (yes p) = p
     by (no p) = absurd (stays (omega arith))
+
+pub owes-on : (before mid after : List ℕ → List ℕ) (text more : List ℕ) → ((later : List ℕ) → before later ≡ text ++ mid later)
+    → ((later : List ℕ) → mid later ≡ more ++ after later) → (later : List ℕ) → before later ≡ text ++ more ++ after later
+owes-on before mid after text more e f later = e later ∙ rw (f later) (sym (append-assoc text more (after later)))
+
+pub owes-all : (before owed : List ℕ → List ℕ) (text held input : List ℕ) (next : ℕ) → length input ≤ next
+    → ((later : List ℕ) → before later ≡ text ++ owed (held ++ (drop next input ++ later))) → (later : List ℕ) → before later ≡ text ++ owed (held ++ later)
+owes-all before owed text held input next h e later = rw (drop-of-length-le input {i = next} h) at (e later)

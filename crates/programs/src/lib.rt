@@ -93,10 +93,11 @@ fn answer_some(
     }
 }
 
-// Answers all names of a piece of input and prints the answers. The bytes that the line then has.
+// Answers all names of a piece of input and prints the answers. The bytes that the line then has: what is owed is a text, and what is owed for them and all that comes later.
 fn serve(area: &[u8], input: &[u8], line: &mut [u8], have: usize, out: &mut [u8]) -> usize
     requires { ⌜ (nameMax < length (now line)) × (textMax ≤ length (now out)) × (have ≤ length (now line)) × Without lineFeed (take have (now line)) ⌝ }
-    ensures { λ r. ⌜ (r ≤ length (now (line .exit))) × Without lineFeed (take r (now (line .exit))) ⌝ }
+    ensures clean { λ r. ⌜ (r ≤ length (now (line .exit))) × Without lineFeed (take r (now (line .exit))) ⌝ }
+    ensures holds { λ r. ⌜ ((text : List ℕ) × ((later : List ℕ) → lookupText (now (area .entry)) (take have (now (line .entry)) ++ (now (input .entry) ++ later)) ≡ text ++ lookupText (now (area .entry)) (take r (now (line .exit)) ++ later))) ⌝ }
 {
     let mut held = have;
     let mut next = 0;
