@@ -5,10 +5,11 @@ use mathlib.Core.Bool.{Bool, true, false}
 use mathlib.Core.List.{List, [], _∷_, _++_, append-assoc}
 use native.Mathlib.Nat.{pow-suc, div-lt-iff-lt-mul}
 use native.Mathlib.Omega.{arith}
+use native.Mathlib.Decide.{decLt}
 use borrow.Author.Tests.{ltb-true, ltb-false}
 use lib.Dec.{ltb}
-use lib.ListN.{length, getD, take, length-append, length-take}
-use lib.Seq.{length-take-le, take-append-add}
+use lib.ListN.{length, getD, take, length-append, length-take, List·getD-append}
+use lib.Seq.{length-take-le, take-append-add, getD-append-add}
 use Rattle.words.specs.Words.{part, put}
 use Rattle.words.proofs.Laws.{bool-cases, first-low, first-high}
 use Rattle.words.proofs.Promises.{first-there}
@@ -54,6 +55,39 @@ decimal-reads (suc k) n h =
     (λ t.
     let few : n / 10 < 10 ^ k = div-lt-iff-lt-mul {k = 10} (omega arith) .1 (rw pow-suc at h) in
     rw (t, read-append 0 (decimalIn k (n / 10)) (digit (n % 10) ∷ []), decimal-reads k (n / 10) few) (omega arith))
+
+-- each is one of 0 to 9, and no zero stands in front
+abbrev pub IsDigit : ℕ → Type 0
+IsDigit b = (digit 0 ≤ b) × (b ≤ digit 9)
+
+digit-behind : (ds : List ℕ) (d i : ℕ) → d < 10 → ((j : ℕ) → j < length ds → IsDigit (getD ds j 0)) → i < length (ds ++ digit d ∷ []) → IsDigit (getD (ds ++ digit d ∷ []) i 0)
+digit-behind ds d i few all h = by (decLt i (length ds))
+  where
+    by : Dec (i < length ds) → IsDigit (getD (ds ++ digit d ∷ []) i 0)
+    by (yes p) = rw (List·getD-append ds (digit d ∷ []) 0 i p) (all i p)
+    by (no p) =
+        let e : i ≡ length ds + 0 = omega (arith, length-append ds (digit d ∷ []), h) in
+        rw (e, getD-append-add ds (digit d ∷ []) 0 0) (omega arith, omega arith)
+
+pub decimal-digits : (k n i : ℕ) → i < length (decimalIn k n) → IsDigit (getD (decimalIn k n) i 0)
+unfolding decimalIn
+decimal-digits zero n i h = absurd (omega arith)
+decimal-digits (suc k) n i h =
+    bool-cases (ltb n 10)
+    (λ t. rw t (digit-behind [] n i (ltb-true n 10 t) (λ j l. absurd (omega arith)) (rw t at h)))
+    (λ t. rw t (digit-behind (decimalIn k (n / 10)) (n % 10) i (omega arith) (decimal-digits k (n / 10)) (rw t at h)))
+
+pub decimal-leads : (k n : ℕ) → n < 10 ^ k → 1 ≤ n → (1 ≤ length (decimalIn k n)) × (digit 0 < getD (decimalIn k n) 0 0)
+unfolding decimalIn
+decimal-leads zero n h some = absurd (omega arith)
+decimal-leads (suc k) n h some =
+    bool-cases (ltb n 10)
+    (λ t. rw t (omega arith, omega arith))
+    (λ t.
+    let many : 10 ≤ n = ltb-false n 10 t in
+    let few : n / 10 < 10 ^ k = div-lt-iff-lt-mul {k = 10} (omega arith) .1 (rw pow-suc at h) in
+    let leads = decimal-leads k (n / 10) few (omega arith) in
+    rw t (rw length-append (omega arith), rw (List·getD-append (decimalIn k (n / 10)) (digit (n % 10) ∷ []) 0 0 (leads .0)) (leads .1)))
 
 -- ---- a text in a buffer: where it fits it stands there whole, behind what stood before it; another text goes on from there (`said-append`)
 pub said-stands : (out : List ℕ) (at : ℕ) (text : List ℕ) (next : ℕ) (after : List ℕ) → saying next after ≡ said out at text → at + length text ≤ length out
