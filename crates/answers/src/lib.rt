@@ -20,9 +20,9 @@ use texts::say_escaped;
 use texts::say_number;
 
 // The longest area.bin, and the longest name.
-const FILE_MAX: usize = 65536;
+pub const FILE_MAX: usize = 65536;
 
-const NAME_MAX: usize = 65536;
+pub const NAME_MAX: usize = 65536;
 
 fn say_refused(out: &mut [u8], at: usize, why: Refusal) -> usize
     ensures { λ r. ⌜ saying r (now (out .exit)) ≡ said (now (out .entry)) at (refusedText (numberOf why)) ⌝ }

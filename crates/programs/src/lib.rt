@@ -1,8 +1,8 @@
-// The programs dump and lookup. They move bytes: area.bin and standard input into buffers, the texts of the crate answers to standard output.
+// The programs dump and lookup. They move bytes: a file's and an input's into buffers, the texts of the crate answers to standard output.
 ghost use mathlib.Core.Path.{_≡_};
-ghost use mathlib.Core.List.{List, _++_};
+ghost use mathlib.Core.List.{List, []};
 ghost use Prim.Native.Nat.{ℕ, _≤_, _<_};
-ghost use lib.ListN.{length, take, drop};
+ghost use lib.ListN.{length, take};
 ghost use Rattle.io.specs.Counts.{Counts};
 ghost use Rattle.sound.specs.Sound.{Without};
 ghost use Rattle.audit.specs.Check.{Judged};
@@ -10,22 +10,44 @@ ghost use Rattle.texts.specs.Text.{lineFeed};
 ghost use Rattle.answers.specs.Answers.{nameMax, textMax};
 ghost use Rattle.answers.specs.Lines.{lookupText};
 ghost use Rattle.printed.specs.Printed.{fileDump};
+ghost use Rattle.programs.specs.Owed.{Held, Ready, Owes, OwesIn};
+use answers::FILE_MAX;
+use answers::NAME_MAX;
 use answers::Progress;
+use layout::Backup;
+use layout::Header;
+use layout::Node;
 use libc::STDIN_FILENO;
 use libc::STDOUT_FILENO;
 
+// The programs' file, in the current folder.
+const AREA: [u8; 8] = *b"area.bin";
+
+// Space for a file, and for a line of the input: one byte more than may be, so that more is seen.
+const FILE_SPACE: usize = FILE_MAX + 1;
+
+const LINE_SPACE: usize = NAME_MAX + 1;
+
 // No answer and no dump is longer.
-const TEXT_MAX: usize = 262208;
+const TEXT_MAX: usize = 4 * FILE_MAX + 64;
+
+// The lookup gathers answers, and prints them when the next may have no room.
+const ANSWERS_SPACE: usize = 2 * TEXT_MAX;
+
+// What listing needs for any file: scratch, a byte for four of the file; and a place for each entry. Behind header, root and backup slot an entry has a node of 24 bytes at least.
+const SCRATCH_SPACE: usize = FILE_MAX / 4;
+
+const ENTRIES_MAX: usize = (FILE_MAX - Header::SIZE - Backup::END) / (Node::SIZE + 4);
 
 fn print(text: &[u8]) {
     io::write_all(STDOUT_FILENO, text);
 }
 
-// Reads area.bin, of the current folder, into the start of a buffer. A file that cannot be read counts as empty; of a longer one there are as many bytes as the buffer has.
-fn load(buf: &mut [u8]) -> usize
+// Reads a file into the start of a buffer, and answers how many bytes. A file that cannot be read counts as empty; of a longer one there are as many bytes as the buffer has.
+fn load(name: &[u8], buf: &mut [u8]) -> usize
     ensures { λ r. ⌜ Counts r (now (buf .exit)) ⌝ }
 {
-    let fd = os::open_read(b"area.bin");
+    let fd = os::open_read(name);
     if fd < 0 {
         return 0;
     }
@@ -42,27 +64,34 @@ fn dump_text(area: &[u8], out: &mut [u8]) -> usize
     ensures within { λ r. ⌜ r ≤ length (now (out .exit)) ⌝ }
     ensures whole { λ r. ⌜ ((judged : Judged (now (area .entry))) → take r (now (out .exit)) ≡ fileDump (now (area .entry)) judged) ⌝ }
 {
-    let mut scratch = [0u8; 16384];
-    let mut list = [0u32; 2720];
+    let mut scratch = [0u8; SCRATCH_SPACE];
+    let mut list = [0u32; ENTRIES_MAX];
     answers::dump(area, &mut scratch, &mut list, out)
 }
 
 fn print_dump(area: &[u8]) {
-    let mut out = [0u8; 262208];
+    let mut out = [0u8; TEXT_MAX];
     let told = dump_text(area, &mut out);
     print(&out[..told]);
 }
 
-pub fn dump() {
-    let mut space = [0u8; 65537];
-    let size = load(&mut space);
+// Prints the dump of a file.
+pub fn dump_file(name: &[u8]) {
+    let mut space = [0u8; FILE_SPACE];
+    let size = load(name, &mut space);
     print_dump(&space[..size]);
+}
+
+// The program dump: area.bin, of the current folder.
+pub fn dump() {
+    dump_file(&AREA);
 }
 
 // ---- lookup
 
-// Answers the names of a piece of input from a place on, as long as the output has room for any answer. What is said stands at the output's start: with what is owed for
-// the rest it is what was owed before, whatever input comes later.
+// Answers the names of a piece of input, from a place on, and stops where the piece ends or the output may have no room for the next answer. Input that is left is taken, in part at least.
+// The answers stand at the output's start. None is lost and none is added: what was owed at the call is these answers, and then what is owed for the rest. A name that has
+// not ended stays in the line.
 fn answer_some(
     area: &[u8],
     input: &[u8],
@@ -71,11 +100,11 @@ fn answer_some(
     have: usize,
     out: &mut [u8],
 ) -> Progress
-    requires { ⌜ (nameMax < length (now line)) × (textMax ≤ length (now out)) × (from ≤ length (now input)) × (have ≤ length (now line)) × Without lineFeed (take have (now line)) ⌝ }
+    requires { ⌜ (from ≤ length (now input)) × Ready (now line) have (now out) ⌝ }
     ensures within { λ r. ⌜ (r .have ≤ length (now (line .exit))) × (r .next ≤ length (now (input .entry))) × (r .at ≤ length (now (out .exit))) ⌝ }
     ensures goes { λ r. ⌜ (from < length (now (input .entry)) → from < r .next) ⌝ }
     ensures clean { λ r. ⌜ Without lineFeed (take (r .have) (now (line .exit))) ⌝ }
-    ensures serves { λ r. ⌜ ((later : List ℕ) → lookupText (now (area .entry)) (take have (now (line .entry)) ++ (drop from (now (input .entry)) ++ later)) ≡ take (r .at) (now (out .exit)) ++ lookupText (now (area .entry)) (take (r .have) (now (line .exit)) ++ (drop (r .next) (now (input .entry)) ++ later))) ⌝ }
+    ensures serves { λ r. ⌜ OwesIn (now (area .entry)) (now (input .entry)) (take have (now (line .entry))) from (take (r .at) (now (out .exit))) (take (r .have) (now (line .exit))) (r .next) ⌝ }
 {
     let mut held = have;
     let mut next = from;
@@ -93,11 +122,12 @@ fn answer_some(
     }
 }
 
-// Answers all names of a piece of input and prints the answers. The bytes that the line then has: what is owed is a text, and what is owed for them and all that comes later.
+// Answers all names of a piece of input, and prints the answers. A name that has not ended stays in the line: the result says how many bytes.
+// What was owed at the call is a text, and then what is owed for those bytes and for all that comes later.
 fn serve(area: &[u8], input: &[u8], line: &mut [u8], have: usize, out: &mut [u8]) -> usize
-    requires { ⌜ (nameMax < length (now line)) × (textMax ≤ length (now out)) × (have ≤ length (now line)) × Without lineFeed (take have (now line)) ⌝ }
-    ensures clean { λ r. ⌜ (r ≤ length (now (line .exit))) × Without lineFeed (take r (now (line .exit))) ⌝ }
-    ensures holds { λ r. ⌜ ((text : List ℕ) × ((later : List ℕ) → lookupText (now (area .entry)) (take have (now (line .entry)) ++ (now (input .entry) ++ later)) ≡ text ++ lookupText (now (area .entry)) (take r (now (line .exit)) ++ later))) ⌝ }
+    requires { ⌜ Ready (now line) have (now out) ⌝ }
+    ensures clean { λ r. ⌜ Held (now (line .exit)) r ⌝ }
+    ensures holds { λ r. ⌜ ((text : List ℕ) × Owes (now (area .entry)) (take have (now (line .entry))) (now (input .entry)) text (take r (now (line .exit))) []) ⌝ }
 {
     let mut held = have;
     let mut next = 0;
@@ -111,21 +141,28 @@ fn serve(area: &[u8], input: &[u8], line: &mut [u8], have: usize, out: &mut [u8]
     held
 }
 
-// One read of standard input. No byte: the input has ended.
-fn read_some(buf: &mut [u8]) -> usize
+// One read of the input. No byte: the input has ended.
+fn read_some(input: i32, buf: &mut [u8]) -> usize
     ensures { λ r. ⌜ Counts r (now (buf .exit)) ⌝ }
 {
-    let got = libc::read(STDIN_FILENO, buf);
+    let got = libc::read(input, buf);
     io::count(got, buf)
 }
 
-// One read of the input, and its names. `more` says whether to go on.
-fn serve_some(area: &[u8], line: &mut [u8], have: usize, out: &mut [u8], more: &mut bool) -> usize
-    requires { ⌜ (nameMax < length (now line)) × (textMax ≤ length (now out)) × (have ≤ length (now line)) × Without lineFeed (take have (now line)) ⌝ }
-    ensures { λ r. ⌜ (r ≤ length (now (line .exit))) × Without lineFeed (take r (now (line .exit))) ⌝ }
+// Reads the input once, and serves what was read. `more` becomes false where the input has ended.
+fn serve_some(
+    area: &[u8],
+    input: i32,
+    line: &mut [u8],
+    have: usize,
+    out: &mut [u8],
+    more: &mut bool,
+) -> usize
+    requires { ⌜ Ready (now line) have (now out) ⌝ }
+    ensures { λ r. ⌜ Held (now (line .exit)) r ⌝ }
 {
     let mut space = io::large_buffer();
-    let size = read_some(&mut space);
+    let size = read_some(input, &mut space);
     if size == 0 {
         *more = false;
         return have;
@@ -133,15 +170,15 @@ fn serve_some(area: &[u8], line: &mut [u8], have: usize, out: &mut [u8], more: &
     serve(area, &space[..size], line, have, out)
 }
 
-// All names of the input. A proved loop has to end, and nothing says that the input does: the reads are counted down from 2^64 - 1.
-fn serve_all(area: &[u8], line: &mut [u8], out: &mut [u8])
+// Serves all of the input. A proved loop has to end, and nothing says that the input does: the reads are counted down from 2^64 - 1.
+fn serve_all(area: &[u8], input: i32, line: &mut [u8], out: &mut [u8])
     requires { ⌜ (nameMax < length (now line)) × (textMax ≤ length (now out)) ⌝ }
 {
     let mut held = 0;
     let mut more = true;
     let mut reads = u64::MAX;
     while reads > 0 && more {
-        held = serve_some(area, line, held, out, &mut more);
+        held = serve_some(area, input, line, held, out, &mut more);
         reads -= 1;
     }
     finish(area, &line[..held], out);
@@ -163,14 +200,20 @@ fn finish(area: &[u8], held: &[u8], out: &mut [u8])
     print(&out[..told]);
 }
 
-fn print_answers(area: &[u8]) {
-    let mut line = [0u8; 65537];
-    let mut out = [0u8; 524416];
-    serve_all(area, &mut line, &mut out);
+fn print_answers(area: &[u8], input: i32) {
+    let mut line = [0u8; LINE_SPACE];
+    let mut out = [0u8; ANSWERS_SPACE];
+    serve_all(area, input, &mut line, &mut out);
 }
 
+// Prints a file's answer to each name of an input, given by its descriptor.
+pub fn lookup_file(name: &[u8], input: i32) {
+    let mut space = [0u8; FILE_SPACE];
+    let size = load(name, &mut space);
+    print_answers(&space[..size], input);
+}
+
+// The program lookup: area.bin, of the current folder, and standard input.
 pub fn lookup() {
-    let mut space = [0u8; 65537];
-    let size = load(&mut space);
-    print_answers(&space[..size]);
+    lookup_file(&AREA, STDIN_FILENO);
 }

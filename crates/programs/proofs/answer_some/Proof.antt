@@ -1,17 +1,16 @@
 -- `answer_some` says what it owes, turn by turn. The loop's invariant: what is said, with what is owed for the rest, is what was owed at the start; places lie
 -- within their buffers, whose lengths stay; at the start nothing is said. The measure is what is left of the input. Assumes nothing.
-use Prim.Native.Nat.{ℕ, _-_, _≤_}
+use Prim.Native.Nat.{_-_, _≤_}
 use mathlib.Core.Path.{_≡_, refl, _∙_}
-use mathlib.Core.List.{List, _++_}
 use native.Mathlib.Omega.{arith}
 use borrow.Author.Tests.{leb-true, leb-false}
-use lib.ListN.{length, take, drop}
+use lib.ListN.{length, take}
 use Rattle.sound.specs.Sound.{Without}
 use Rattle.texts.specs.Text.{lineFeed}
 use Rattle.answers.specs.Answers.{textMax}
-use Rattle.answers.specs.Lines.{lookupText}
 use Rattle.answers.proofs.Within.{turn-within}
 use Rattle.printed.proofs.Promises.{turn-goes, turn-clean}
+use Rattle.programs.specs.Owed.{OwesIn}
 use Rattle.programs.proofs.Laws.{moved-on}
 use borrow.Author.Needs.{needs}
 use Rattle.programs.proofs.answer_some.Statement.{statement}
@@ -21,13 +20,13 @@ abbrev Inv-loop : tie.InvT-loop
 Inv-loop area input from line₀ have out₀ held₀ next₀ at₀ line out held next at =
     (length line ≡ length line₀) × (length out ≡ length out₀) × (held ≤ length line) × (next ≤ length input) × (at ≤ length out) × Without lineFeed (take held line)
     × (from ≤ next) × (next ≡ from → at ≡ 0)
-    × ((later : List ℕ) → lookupText area (take have line₀ ++ (drop from input ++ later)) ≡ take at out ++ lookupText area (take held line ++ (drop next input ++ later)))
+    × OwesIn area input (take have line₀) from (take at out) (take held line) next
 
 abbrev μ-loop : tie.MeasureT-loop
 μ-loop area input from line₀ have out₀ held₀ next₀ at₀ line out held next at = length input - next
 
 loop-holds : tie.Need-loop-holds Inv-loop μ-loop
-loop-holds c = (refl, refl, omega arith, omega arith, omega arith, c .before .before .before .before .pre .4, omega arith, λ _. refl, λ later. refl)
+loop-holds c = (refl, refl, omega arith, omega arith, omega arith, c .before .before .before .before .pre .1 .2 .1, omega arith, λ _. refl, λ later. refl)
 
 sub-if1 : tie.Need-sub-if1 Inv-loop μ-loop
 sub-if1 c = c .before .loop .inv .4

@@ -1,5 +1,5 @@
 -- `dump_text` leaves the file's dump whole: scratch, list and output are large enough. Assumes nothing.
-use Prim.Native.Nat.{ℕ, _*_, _≤_}
+use Prim.Native.Nat.{ℕ, _*_, _/_, _≤_}
 use native.Mathlib.Omega.{arith}
 use Rattle.answers.specs.Answers.{fileMax}
 use Rattle.answers.proofs.Within.{dump-within}
@@ -26,7 +26,7 @@ returns : tie.Need-returns
 returns c =
     let told = c .before .before .before .before .dump .ensures in (
       dump-within _ _ _ _ _ _ _ _ told .place,
-      dump-whole _ _ _ _ _ _ _ _ told (lends (λ (n : ℕ). fileMax ≤ 4 * n) 16384 (omega arith)) (lends (λ (n : ℕ). entriesMax ≤ n) 2720 (omega arith)) (omega arith),
+      dump-whole _ _ _ _ _ _ _ _ told (lends (λ (n : ℕ). fileMax ≤ 4 * n) (fileMax / 4) (omega arith)) (lends (λ (n : ℕ). entriesMax ≤ n) entriesMax (omega arith)) (omega arith),
     )
 
 pub dump-text-spec : {M : Type 1} → statement M

@@ -10,6 +10,7 @@ use lib.Seq.{length-take-le}
 use Rattle.sound.specs.Sound.{Without}
 use Rattle.texts.specs.Text.{lineFeed}
 use Rattle.answers.specs.Lines.{lookupText}
+use Rattle.programs.specs.Owed.{Owes}
 use Rattle.programs.proofs.Laws.{owes-on, owes-all}
 use borrow.Author.Needs.{needs}
 use Rattle.programs.proofs.serve.Statement.{statement}
@@ -18,16 +19,16 @@ use Rattle.programs.proofs.serve.Tie as tie
 abbrev Inv-loop : tie.InvT-loop
 Inv-loop area input line₀ have out₀ held₀ next₀ line out held next =
     (length line ≡ length line₀) × (length out ≡ length out₀) × (held ≤ length line) × (next ≤ length input) × Without lineFeed (take held line)
-    × ((text : List ℕ) × ((later : List ℕ) → lookupText area (take have line₀ ++ (input ++ later)) ≡ text ++ lookupText area (take held line ++ (drop next input ++ later))))
+    × ((text : List ℕ) × Owes area (take have line₀) input text (take held line) (drop next input))
 
 abbrev μ-loop : tie.MeasureT-loop
 μ-loop area input line₀ have out₀ held₀ next₀ line out held next = length input - next
 
 loop-holds : tie.Need-loop-holds Inv-loop μ-loop
-loop-holds c = (refl, refl, omega arith, omega arith, c .before .before .before .before .pre .3, ([], λ later. refl))
+loop-holds c = (refl, refl, omega arith, omega arith, c .before .before .before .before .pre .2 .1, ([], λ later. refl))
 
 answer-some-requires : tie.Need-answer-some-requires Inv-loop μ-loop
-answer-some-requires c κs = let inv = c .before .before .before .loop .inv in (omega arith, omega arith, inv .3, inv .2, inv .4)
+answer-some-requires c κs = let inv = c .before .before .before .loop .inv in (inv .3, (omega arith, omega arith, (inv .2, inv .4)))
 
 slice-reshare-prefix-print : tie.Need-slice-reshare-prefix-print Inv-loop μ-loop
 slice-reshare-prefix-print c = c .before .before .before .before .answer-some .ensures .0 .2

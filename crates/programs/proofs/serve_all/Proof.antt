@@ -12,17 +12,17 @@ use Rattle.programs.proofs.serve_all.Statement.{statement}
 use Rattle.programs.proofs.serve_all.Tie as tie
 
 abbrev Inv-loop : tie.InvT-loop
-Inv-loop area line₀ out₀ held₀ more₀ reads₀ line out held more reads =
+Inv-loop area input line₀ out₀ held₀ more₀ reads₀ line out held more reads =
     (length line ≡ length line₀) × (length out ≡ length out₀) × (held ≤ length line) × Without lineFeed (take held line)
 
 abbrev μ-loop : tie.MeasureT-loop
-μ-loop area line₀ out₀ held₀ more₀ reads₀ line out held more reads = reads
+μ-loop area input line₀ out₀ held₀ more₀ reads₀ line out held more reads = reads
 
 loop-holds : tie.Need-loop-holds Inv-loop μ-loop
 loop-holds c = (refl, refl, omega arith, λ k l e. omega (arith, l))
 
 serve-some-requires : tie.Need-serve-some-requires Inv-loop μ-loop
-serve-some-requires c κs = (omega arith, omega arith, omega arith, c .before .before .before .before .before .loop .inv .3)
+serve-some-requires c κs = (omega arith, omega arith, (omega arith, c .before .before .before .before .before .loop .inv .3))
 
 sub-reads : tie.Need-sub-reads Inv-loop μ-loop
 sub-reads c = omega arith

@@ -1,0 +1,24 @@
+// The dump of each file of data/, under a line with its name: an empty file, one a byte short of a header, a sound area of more than 65,536 bytes, one of 65,536 bytes full of
+// energy pulses, a damaged one, a file that is not there, and an area with a long value, an empty one, and bytes that are escaped.
+use libc::STDOUT_FILENO;
+
+fn print(text: &[u8]) {
+    io::write_all(STDOUT_FILENO, text);
+}
+
+fn show(area: &[u8]) {
+    print(b"-- ");
+    print(area);
+    print(b"\n");
+    programs::dump_file(area);
+}
+
+fn main() {
+    show(b"empty.area");
+    show(b"short.area");
+    show(b"large.area");
+    show(b"largest.area");
+    show(b"damaged.area");
+    show(b"missing.area");
+    show(b"values.area");
+}

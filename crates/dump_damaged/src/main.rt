@@ -1,4 +1,0 @@
-// The dump of a damaged area.
-fn main() {
-    programs::dump();
-}

@@ -1,4 +1,0 @@
-// The dump of an empty file.
-fn main() {
-    programs::dump();
-}

@@ -1,4 +1,0 @@
-// The dump where there is no file.
-fn main() {
-    programs::dump();
-}

@@ -1,4 +1,0 @@
-// The dump of a file one byte short of a header.
-fn main() {
-    programs::dump();
-}

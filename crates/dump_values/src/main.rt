@@ -1,4 +1,0 @@
-// The dump of an area with a long value, an empty one, and bytes that are escaped.
-fn main() {
-    programs::dump();
-}

@@ -1,0 +1,30 @@
+// The lookup in areas of data/, each with an input, under a line with both names: names of 65,536 and of 65,537 bytes, and one that no line feed ends; no name, the input is empty;
+// a file of more than 65,536 bytes, 8 at each name, and before 6; a file that is not there; a damaged area.
+use libc::STDOUT_FILENO;
+
+fn print(text: &[u8]) {
+    io::write_all(STDOUT_FILENO, text);
+}
+
+fn show(area: &[u8], names: &[u8]) {
+    print(b"-- ");
+    print(area);
+    print(b" ");
+    print(names);
+    print(b"\n");
+    let input = os::open_read(names);
+    if input < 0 {
+        print(b"no input\n");
+        return;
+    }
+    programs::lookup_file(area, input);
+    libc::close(input);
+}
+
+fn main() {
+    show(b"settled.area", b"long.names");
+    show(b"settled.area", b"none.names");
+    show(b"large.area", b"large.names");
+    show(b"missing.area", b"missing.names");
+    show(b"damaged.area", b"damaged.names");
+}

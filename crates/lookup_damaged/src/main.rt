@@ -1,4 +1,0 @@
-// The lookup in a damaged area.
-fn main() {
-    programs::lookup();
-}

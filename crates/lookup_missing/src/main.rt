@@ -1,4 +1,0 @@
-// The lookup where there is no file.
-fn main() {
-    programs::lookup();
-}
