@@ -4,9 +4,17 @@
  * Every call answers for any bytes. The caller's part: each pointer leads to as many bytes as the length beside it says
  * (NULL goes with length 0), and buffers that a call writes overlap no other buffer of that call.
  *
- * A refusal has a number:
- *   1 zero byte in an added name   2 empty segment in a name   3 no such name   4 no room   5 the area is damaged
- *   6 too long   7 a long entry is not updated   8 the header, or the length, is no area's   9 a size over 32 bits   10 scratch or list is too short
+ * A refusal has a number. This is the one list of them: the Rust binding and the tool pa read it here.
+ *    1  ZeroByte      a name to add has a zero byte
+ *    2  EmptySegment  a name has an empty segment: it is empty, begins or ends with a dot, or has two dots side by side
+ *    3  Missing       the area has no entry of that name
+ *    4  NoRoom        the area has no room
+ *    5  Damaged       the area is damaged: its bytes break a rule
+ *    6  TooLong       too long: a value or backup of 92 bytes or more, or a name of over 65,536 on the lookup's input
+ *    7  LongEntry     an entry with a long value cannot be updated
+ *    8  BadHeader     this is no property area: its length, magic or version is none's; the programs take 65,536 bytes at most
+ *    9  TooLarge      a size does not fit 32 bits
+ *   10  ShortBuffer   scratch or list is too short
  * A number returned alone is 0 for accepted, else the refusal. Refusals 1, 2, 3, 8, and every refusal of pa_update, leave every byte.
  */
 #ifndef PROPERTY_AREA_H

@@ -167,6 +167,6 @@ fn every_number_has_a_case_and_a_sentence() {
     for number in [11, u32::MAX] {
         assert_eq!(Refusal::from_number(number), Some(Refusal::Other(number)));
         assert_eq!(Refusal::Other(number).number(), number);
-        assert_eq!(Refusal::Other(number).to_string(), format!("refusal {number}: the number is not in the table"));
+        assert_eq!(Refusal::Other(number).to_string(), format!("refusal {number}: the number is not in the list"));
     }
 }
