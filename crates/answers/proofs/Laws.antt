@@ -10,21 +10,22 @@ use lib.Dec.{leb}
 use lib.ListN.{length, getD, take, drop, drop-of-length-le}
 use lib.Seq.{drop-cons, length-take-le}
 use Rattle.words.specs.Words.{part}
-use Rattle.words.proofs.Laws.{bool-cases, put-length}
+use Rattle.words.proofs.Laws.{bool-cases, clash, put-length}
 use Rattle.layout.specs.declared.refusal.Refusal.{Refusal}
 use Rattle.layout.specs.Layout.{wordSize, usedField}
 use Rattle.layout.specs.Refusals.{Answer, accepted, refused, refuse, numberOf}
-use Rattle.property_area.specs.declared.values.Shown.{Shown}
-use Rattle.property_area.specs.Header.{headerOk}
-use Rattle.property_area.specs.Find.{Hit, hit, findSteps}
-use Rattle.property_area.specs.Value.{bytes, shownAnswer}
-use Rattle.property_area.specs.Lookup.{hitSteps, lookupSteps}
-use Rattle.property_area.proofs.HeaderLaws.{header-min}
-use Rattle.property_area.proofs.ValueLaws.{ShownIn, accepted-in}
+use Rattle.property_area.specs.declared.values.ValuePart.{ValuePart}
+use Rattle.trie.specs.Header.{headerOk}
+use Rattle.property_area.specs.Find.{Hit, hit, byHit, findSteps}
+use Rattle.property_area.specs.Value.{bytes, partAnswer, valueSteps}
+use Rattle.property_area.specs.Lookup.{lookupSteps}
+use Rattle.trie.proofs.HeaderLaws.{header-min}
+use Rattle.property_area.proofs.ValueLaws.{PartIn, accepted-in}
 use Rattle.sound.specs.Tree.{listed}
 use Rattle.audit.specs.declared.checking.Listed.{Listed}
 use Rattle.audit.specs.Check.{usedOf, Judged, lists, listedAnswer, listSteps}
-use Rattle.audit.proofs.Promises.{every-judged, ListTells, list-tells}
+use Rattle.audit.proofs.Telling.{ListTells}
+use Rattle.audit.proofs.Promises.{every-judged, list-tells}
 use Rattle.texts.specs.Text.{escaped, saying, said, fed, feed}
 use Rattle.texts.proofs.Laws.{said-append, said-none}
 use Rattle.answers.specs.Answers.{fileMax, nameMax, fileOk, ending, refusedText, askSteps, answerText, headText, entryLine, entryLines, dumps, fileListing, dumpSteps}
@@ -46,36 +47,36 @@ module _ (area name : List ℕ) where
       unfolding askSteps
       ask-long l = rw (le-leb (length area) fileMax small, h, lt-leb (length name) nameMax l)
 
-      pub ask-read : length name ≤ nameMax → lookupSteps area name ≡ askSteps area name
+      pub ask-lookup : length name ≤ nameMax → lookupSteps area name ≡ askSteps area name
       unfolding askSteps
-      ask-read l = rw (le-leb (length area) fileMax small, h, le-leb (length name) nameMax l)
+      ask-lookup l = rw (le-leb (length area) fileMax small, h, le-leb (length name) nameMax l)
 
-  clash : {A : Type 0} (number from to : ℕ) → refused number ≡ accepted (bytes from to) → A
-  clash number from to q = absurd (let z : _≡_ {A = ℕ} 0 1 = cc in omega arith)
+  refuses : {A : Type 0} (number from to : ℕ) → refused number ≡ accepted (bytes from to) → A
+  refuses number from to q = clash cc
 
-  hit-in : (found : Answer Hit) (from to : ℕ) → hitSteps area found ≡ accepted (bytes from to) → ShownIn area from to
+  hit-in : (found : Answer Hit) (from to : ℕ) → byHit refused (valueSteps area) found ≡ accepted (bytes from to) → PartIn area from to
   hit-in (accepted (hit at compared)) from to e = accepted-in area at from to e
-  hit-in (refused number) from to e = clash number from to e
+  hit-in (refused number) from to e = refuses number from to e
 
-  ask-accepted : (from to : ℕ) → askSteps area name ≡ accepted (bytes from to) → ShownIn area from to
+  ask-accepted : (from to : ℕ) → askSteps area name ≡ accepted (bytes from to) → PartIn area from to
   unfolding askSteps
   ask-accepted from to e =
       bool-cases (fileOk area)
       (λ h. bool-cases (leb (length name) nameMax)
       (λ l. hit-in (findSteps area name) from to (rw (h, l) at e))
-      (λ l. clash _ from to (rw (h, l) at e)))
-      (λ h. clash _ from to (rw h at e))
+      (λ l. refuses _ from to (rw (h, l) at e)))
+      (λ h. refuses _ from to (rw h at e))
 
-  module _ (shown : Shown) (e : shownAnswer shown ≡ askSteps area name) where
-    pub ask-in : (from to : ℕ) → shown ≡ Shown.Bytes from to → ShownIn area from to
-    ask-in from to f = ask-accepted from to (sym e ∙ ap shownAnswer f)
+  module _ (asked : ValuePart) (e : partAnswer asked ≡ askSteps area name) where
+    pub ask-in : (from to : ℕ) → asked ≡ ValuePart.Bytes from to → PartIn area from to
+    ask-in from to f = ask-accepted from to (sym e ∙ ap partAnswer f)
 
     -- ---- the line
-    pub answer-shown : (from to : ℕ) → shown ≡ Shown.Bytes from to → escaped (part area from to) ++ ending ≡ answerText area name
+    pub answer-shown : (from to : ℕ) → asked ≡ ValuePart.Bytes from to → escaped (part area from to) ++ ending ≡ answerText area name
     unfolding answerText
     answer-shown from to f = rw (← e, f)
 
-    pub answer-refused : (why : Refusal) → shown ≡ Shown.Refused why → refusedText (numberOf why) ≡ answerText area name
+    pub answer-refused : (why : Refusal) → asked ≡ ValuePart.Refused why → refusedText (numberOf why) ≡ answerText area name
     unfolding answerText
     answer-refused why f = rw (← e, f)
 
@@ -122,7 +123,7 @@ module _ (area scratch list : List ℕ) where
           (λ s. list-tells area scratch list n left noted (every-judged area) (rw s at (told (every-judged area))))
           (λ s.
           let q : lists (accepted n) left noted ≡ lists (refuse Refusal.BadHeader) scratch list = rw s at (told (every-judged area)) in
-          absurd (let z : _≡_ {A = ℕ} 0 1 = cc in omega arith))
+          clash cc)
 
       -- the entries stand in the list, and there is a used mark
       pub dump-fits : n ≤ length noted

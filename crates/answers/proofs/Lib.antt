@@ -1,3 +1,3 @@
 pub mod Laws
-pub mod Within
+pub mod Reaching
 pub mod Promises

@@ -1,16 +1,17 @@
 -- What the programs print (document 01, Settled examples, last paragraphs): the text of an answer and of a dump.
 use Prim.Native.Nat.{ℕ, _+_, _*_}
-use mathlib.Core.Bool.{Bool, cond, _&&_}
+use mathlib.Core.Path.{_≡_}
+use mathlib.Core.Bool.{Bool, _&&_}
 use mathlib.Core.List.{List, [], _∷_, _++_}
 use lib.ListN.{length, take}
 use lib.Dec.{leb}
 use Rattle.layout.specs.declared.refusal.Refusal.{Refusal}
-use Rattle.layout.specs.Refusals.{Answer, accepted, refused, refuse}
-use Rattle.property_area.specs.Header.{headerOk}
-use Rattle.property_area.specs.Value.{Part, valueSteps, nameSteps, partOf}
-use Rattle.property_area.specs.Lookup.{lookupSteps, shownPart}
+use Rattle.layout.specs.Refusals.{Answer, accepted, refused, refuse, onAccepted, guard}
+use Rattle.trie.specs.Header.{headerOk}
+use Rattle.property_area.specs.Value.{Part, partBytes, valueSteps, nameSteps, partOrNone}
+use Rattle.property_area.specs.Lookup.{lookupSteps}
 use Rattle.audit.specs.Check.{usedOf, Judged, Listing, lists, listSteps}
-use Rattle.texts.specs.Text.{escaped, decimal, lineFeed, Said, said}
+use Rattle.texts.specs.Text.{escaped, decimal, lineFeed, Said, saying, said}
 
 -- area.bin longer than 65,536 bytes is 8, a name over 65,536 bytes is 6
 abbrev pub fileMax : ℕ
@@ -54,7 +55,7 @@ abbrev pub fileOk : List ℕ → Bool
 fileOk area = leb (length area) fileMax && headerOk area
 
 unfoldable pub askSteps : List ℕ → List ℕ → Answer Part
-askSteps area name = cond (fileOk area) (cond (leb (length name) nameMax) (lookupSteps area name) (refuse Refusal.TooLong)) (refuse Refusal.BadHeader)
+askSteps area name = guard (fileOk area) (refuse Refusal.BadHeader) (guard (leb (length name) nameMax) (refuse Refusal.TooLong) (lookupSteps area name))
 
 -- the value, escaped, alone on its line; or "refused" and the number
 abbrev pub answerLine : Answer (List ℕ) → List ℕ
@@ -62,7 +63,7 @@ answerLine (accepted value) = escaped value ++ ending
 answerLine (refused number) = refusedText number
 
 unfoldable pub answerText : List ℕ → List ℕ → List ℕ
-answerText area name = answerLine (shownPart area (askSteps area name))
+answerText area name = answerLine (onAccepted (partBytes area) (askSteps area name))
 
 -- ---- the dump: "entries N used U"
 abbrev pub headText : ℕ → ℕ → List ℕ
@@ -70,7 +71,7 @@ headText count used = entriesWord ++ decimal count ++ usedWord ++ decimal used +
 
 -- "[name]: [value]", both escaped, of the entry at an offset
 unfoldable pub entryLine : List ℕ → ℕ → List ℕ
-entryLine area at = opening ++ escaped (partOf area (nameSteps area at)) ++ between ++ escaped (partOf area (valueSteps area at)) ++ closing
+entryLine area at = opening ++ escaped (partOrNone area (nameSteps area at)) ++ between ++ escaped (partOrNone area (valueSteps area at)) ++ closing
 
 unfoldable pub entryLines : List ℕ → List ℕ → List ℕ
 entryLines area [] = []
@@ -83,14 +84,18 @@ dumpText area (refused number) list = refusedText number
 
 -- the text said, and scratch and list as listing leaves them
 pub data Dumped : Type 0 where
-  dumps : Said → List ℕ → List ℕ → Dumped
+  dumps : (text : Said) (scratch list : List ℕ) → Dumped
 
 abbrev pub dumpListing : List ℕ → List ℕ → Listing → Dumped
 dumpListing area out (lists answer scratch list) = dumps (said out 0 (dumpText area answer list)) scratch list
 
 -- longer than 65,536 bytes is 8
 abbrev pub fileListing : (area scratch list : List ℕ) → Judged area → Listing
-fileListing area scratch list judged = cond (leb (length area) fileMax) (listSteps area scratch list judged) (lists (refuse Refusal.BadHeader) scratch list)
+fileListing area scratch list judged = guard (leb (length area) fileMax) (lists (refuse Refusal.BadHeader) scratch list) (listSteps area scratch list judged)
 
 abbrev pub dumpSteps : (area scratch list out : List ℕ) → Judged area → Dumped
 dumpSteps area scratch list out judged = dumpListing area out (fileListing area scratch list judged)
+
+-- of each judgement: the next place, and output, scratch and list afterwards
+abbrev pub DumpSays : (area scratch list out : List ℕ) → ℕ → List ℕ → List ℕ → List ℕ → Type 0
+DumpSays area scratch list out next after left noted = (judged : Judged area) → dumps (saying next after) left noted ≡ dumpSteps area scratch list out judged

@@ -1,2 +1,3 @@
 pub mod Answers
+pub mod View
 pub mod Lines

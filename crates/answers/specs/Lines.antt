@@ -23,7 +23,7 @@ lookupText area input = answersText area (namesIn input)
 
 -- ---- a turn over a piece of the input: bytes that the line has, where the input goes on, the line, the text said
 pub data Turned : Type 0 where
-  turned : ℕ → ℕ → List ℕ → Said → Turned
+  turned : (have next : ℕ) (line : List ℕ) (text : Said) → Turned
 
 -- a line that has ended is a name, and the next begins
 abbrev pub turnFed : List ℕ → List ℕ → ℕ → Fed → Turned

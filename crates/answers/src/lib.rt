@@ -5,19 +5,19 @@ ghost use Prim.Native.Nat.{_+_, _≤_};
 ghost use lib.ListN.{length};
 ghost use Rattle.layout.specs.Layout.{wordSize, usedField};
 ghost use Rattle.layout.specs.Refusals.{numberOf};
-ghost use Rattle.property_area.specs.Value.{shownAnswer};
-ghost use Rattle.audit.specs.Check.{usedOf, Judged, lists, listedAnswer};
+ghost use Rattle.property_area.specs.Value.{partAnswer};
 ghost use Rattle.texts.specs.Text.{escaped, saying, said};
-ghost use Rattle.answers.specs.Answers.{ending, refusedText, askSteps, answerText, headText, entryLine, entryLines, fileListing, dumps, dumpSteps};
+ghost use Rattle.answers.specs.Answers.{ending, refusedText, askSteps, answerText, headText, entryLine, entryLines, DumpSays};
+ghost use Rattle.answers.specs.View.{listingText, FileListSays};
 ghost use Rattle.answers.specs.Lines.{turned, turnSteps, endSteps};
 use audit::Listed;
 use layout::Header;
 use layout::Refusal;
-use property_area::Shown;
-use property_area::header_ok;
+use property_area::ValuePart;
 use texts::say;
 use texts::say_escaped;
 use texts::say_number;
+use trie::header_ok;
 
 // The longest area.bin, and the longest name.
 pub const FILE_MAX: usize = 65536;
@@ -33,26 +33,26 @@ fn say_refused(out: &mut [u8], at: usize, why: Refusal) -> usize
 }
 
 // What the lookup shows for a name.
-fn ask(area: &[u8], name: &[u8]) -> Shown
-    ensures { λ r. ⌜ shownAnswer r ≡ askSteps (now (area .entry)) (now (name .entry)) ⌝ }
+fn ask(area: &[u8], name: &[u8]) -> ValuePart
+    ensures { λ r. ⌜ partAnswer r ≡ askSteps (now (area .entry)) (now (name .entry)) ⌝ }
 {
     if FILE_MAX < area.len() {
-        return Shown::Refused(Refusal::BadHeader);
+        return ValuePart::Refused(Refusal::BadHeader);
     }
     if !header_ok(area) {
-        return Shown::Refused(Refusal::BadHeader);
+        return ValuePart::Refused(Refusal::BadHeader);
     }
     if NAME_MAX < name.len() {
-        return Shown::Refused(Refusal::TooLong);
+        return ValuePart::Refused(Refusal::TooLong);
     }
-    reader::read(area, name)
+    reader::lookup(area, name)
 }
 
-fn say_shown(out: &mut [u8], at: usize, value: &[u8]) -> usize
+fn say_value(out: &mut [u8], at: usize, value: &[u8]) -> usize
     ensures { λ r. ⌜ saying r (now (out .exit)) ≡ said (now (out .entry)) at (escaped (now (value .entry)) ++ ending) ⌝ }
 {
-    let shown = say_escaped(out, at, value);
-    say(out, shown, b"\n")
+    let valued = say_escaped(out, at, value);
+    say(out, valued, b"\n")
 }
 
 // Puts the lookup's line for a name at a place of a buffer. The next place.
@@ -60,8 +60,8 @@ pub fn answer(area: &[u8], name: &[u8], out: &mut [u8], at: usize) -> usize
     ensures { λ r. ⌜ saying r (now (out .exit)) ≡ said (now (out .entry)) at (answerText (now (area .entry)) (now (name .entry))) ⌝ }
 {
     match ask(area, name) {
-        Shown::Bytes { from, to } => say_shown(out, at, &area[from..to]),
-        Shown::Refused(why) => say_refused(out, at, why),
+        ValuePart::Bytes { from, to } => say_value(out, at, &area[from..to]),
+        ValuePart::Refused(why) => say_refused(out, at, why),
     }
 }
 
@@ -126,10 +126,10 @@ fn say_entry(area: &[u8], offset: u32, out: &mut [u8], at: usize) -> usize
     ensures { λ r. ⌜ saying r (now (out .exit)) ≡ said (now (out .entry)) at (entryLine (now (area .entry)) offset) ⌝ }
 {
     let opened = say(out, at, b"[");
-    let named = say_escaped(out, opened, property_area::name_part(area, offset));
+    let named = say_escaped(out, opened, property_area::name_bytes(area, offset));
     let between = say(out, named, b"]: [");
-    let shown = say_escaped(out, between, property_area::value_part(area, offset));
-    say(out, shown, b"]\n")
+    let valued = say_escaped(out, between, property_area::value_bytes(area, offset));
+    say(out, valued, b"]\n")
 }
 
 fn say_entries(area: &[u8], offsets: &[u32], out: &mut [u8], at: usize) -> usize
@@ -148,7 +148,7 @@ fn say_entries(area: &[u8], offsets: &[u32], out: &mut [u8], at: usize) -> usize
 // The dump of an area with these entries.
 fn say_listing(area: &[u8], offsets: &[u32], out: &mut [u8]) -> usize
     requires { ⌜ usedField + wordSize ≤ length (now area) ⌝ }
-    ensures { λ r. ⌜ saying r (now (out .exit)) ≡ said (now (out .entry)) 0 (headText (length (now (offsets .entry))) (usedOf (now (area .entry))) ++ entryLines (now (area .entry)) (now (offsets .entry))) ⌝ }
+    ensures { λ r. ⌜ saying r (now (out .exit)) ≡ said (now (out .entry)) 0 (listingText (now (area .entry)) (now (offsets .entry))) ⌝ }
 {
     let used = words::word(area, Header::USED) as usize;
     let told = say_head(out, offsets.len(), used);
@@ -157,7 +157,7 @@ fn say_listing(area: &[u8], offsets: &[u32], out: &mut [u8]) -> usize
 
 // Listing, of an area that is no longer than area.bin may be.
 fn list_file(area: &[u8], scratch: &mut [u8], list: &mut [u32]) -> Listed
-    ensures { λ r. ⌜ ((judged : Judged (now (area .entry))) → lists (listedAnswer r) (now (scratch .exit)) (now (list .exit)) ≡ fileListing (now (area .entry)) (now (scratch .entry)) (now (list .entry)) judged) ⌝ }
+    ensures { λ r. ⌜ FileListSays (now (area .entry)) (now (scratch .entry)) (now (list .entry)) r (now (scratch .exit)) (now (list .exit)) ⌝ }
 {
     if FILE_MAX < area.len() {
         return Listed::Refused(Refusal::BadHeader);
@@ -167,7 +167,7 @@ fn list_file(area: &[u8], scratch: &mut [u8], list: &mut [u32]) -> Listed
 
 // Puts the dump of an area at the start of a buffer. The next place. Scratch and list as for listing.
 pub fn dump(area: &[u8], scratch: &mut [u8], list: &mut [u32], out: &mut [u8]) -> usize
-    ensures { λ r. ⌜ ((judged : Judged (now (area .entry))) → dumps (saying r (now (out .exit))) (now (scratch .exit)) (now (list .exit)) ≡ dumpSteps (now (area .entry)) (now (scratch .entry)) (now (list .entry)) (now (out .entry)) judged) ⌝ }
+    ensures { λ r. ⌜ DumpSays (now (area .entry)) (now (scratch .entry)) (now (list .entry)) (now (out .entry)) r (now (out .exit)) (now (scratch .exit)) (now (list .exit)) ⌝ }
 {
     match list_file(area, scratch, list) {
         Listed::Entries(count) => say_listing(area, &list[..count], out),

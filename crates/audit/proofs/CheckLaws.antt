@@ -8,20 +8,23 @@ use mathlib.Core.List.{List, []}
 use lib.Dec.{leb}
 use lib.ListN.{length, getD, replicate, length-replicate, getD-replicate, List·getD-eq-default}
 use borrow.Author.Tests.{le-leb, lt-leb, leb-true}
-use Rattle.words.proofs.Laws.{bool-cases}
+use Rattle.words.proofs.Laws.{bool-cases, clash}
 use Rattle.words.specs.Words.{put}
 use Rattle.layout.specs.declared.refusal.Refusal.{Refusal}
 use Rattle.layout.specs.declared.refusal.Verdict.{Verdict}
-use Rattle.layout.specs.Layout.{wordSize, usedField, areaMax, byteOf}
+use Rattle.layout.specs.Layout.{wordSize, usedField}
 use Rattle.layout.specs.Refusals.{Answer, accepted, refused, refuse, noRefusal, verdictNumber, Outcome, leaves}
-use Rattle.property_area.specs.Header.{headerOk}
-use Rattle.property_area.proofs.HeaderLaws.{header-min, header-max}
+use Rattle.trie.specs.Header.{headerOk}
+use Rattle.trie.proofs.HeaderLaws.{header-min, header-max}
 use Rattle.sound.specs.Tree.{Tree, listed}
 use Rattle.sound.specs.Sound.{Front, Sound}
-use Rattle.walk.specs.Model.{frontOk, walkAt, stepsMax, ended, entriesOf}
+use Rattle.walk.specs.Model.{frontOk, stepsMax, ended, entriesOf}
 use Rattle.walk.proofs.FrontLaws.{front-inv, front-of}
-use Rattle.walk.proofs.Deciding.{Blank, found, walks}
+use Rattle.walk.proofs.Deciding.{Blank}
+use Rattle.walk.proofs.Promises.{walk-finds, walk-ends, walk-lists}
 use Rattle.audit.specs.Check.{usedOf, Judged, sound, unsound, blank, surveySteps, checkSteps, Listing, lists, listedAnswer, listOffsets, listSteps}
+use Rattle.probes.specs.Limits.{UsedIn}
+use Rattle.tour.specs.View.{toured}
 use Rattle.audit.specs.View.{judgedAnswer, countSteps}
 use Rattle.audit.specs.declared.checking.Listed.{Listed}
 
@@ -39,7 +42,7 @@ pub header-word : (area : List ℕ) → headerOk area ≡ true → usedField + w
 header-word area h = omega (arith, header-min area h)
 
 module _ (area : List ℕ) (used : ℕ) (mark : used ≡ usedOf area) where
-  pub tour-fits : headerOk area ≡ true → frontOk area used ≡ true → (byteOf used ≤ length area) × (length area ≤ areaMax)
+  pub tour-fits : headerOk area ≡ true → frontOk area used ≡ true → UsedIn area used
   tour-fits h f =
       let F = front-inv area (usedOf area) h refl (ap (frontOk area) (sym mark) ∙ f) in
       (omega (arith, F .high, header-min area h, mark), header-max area h)
@@ -55,25 +58,25 @@ module _ (area : List ℕ) (used : ℕ) (mark : used ≡ usedOf area) where
     marked : usedOf area ≤ 4 * length marks
     marked = let e : length marks ≡ length scratch = ap length clear ∙ length-replicate (length scratch) 0 in omega (arith, F .high, e, room)
 
-    same : walkAt area used marks (stepsMax area) ≡ walkAt area (usedOf area) marks (stepsMax area)
-    same = ap (λ (u : ℕ). walkAt area u marks (stepsMax area)) mark
+    same : toured area used marks ≡ toured area (usedOf area) marks
+    same = ap (λ (u : ℕ). toured area u marks) mark
 
     -- a walk that does not end: no tree
-    pub walk-none : (t : Bool) → t ≡ ended (walkAt area used marks (stepsMax area)) → t ≡ false → (tree : Tree) → Sound area (usedOf area) tree → ⊥
-    walk-none t e h tree S = false≢true (sym h ∙ e ∙ ap ended same ∙ walks area (usedOf area) F marks (blank-zero scratch marks clear) marked tree S .0)
+    pub walk-none : (t : Bool) → t ≡ ended (toured area used marks) → t ≡ false → (tree : Tree) → Sound area (usedOf area) tree → ⊥
+    walk-none t e h tree S = false≢true (sym h ∙ e ∙ ap ended same ∙ walk-ends area (usedOf area) F marks (blank-zero scratch marks clear) marked tree S)
 
-    pub walk-tree : (t : Bool) → t ≡ ended (walkAt area used marks (stepsMax area)) → t ≡ true → (tree : Tree) × Sound area (usedOf area) tree
-    walk-tree t e h = found area (usedOf area) F marks (blank-zero scratch marks clear) (stepsMax area) (sym (ap ended same) ∙ sym e ∙ h)
+    pub walk-tree : (t : Bool) → t ≡ ended (toured area used marks) → t ≡ true → (tree : Tree) × Sound area (usedOf area) tree
+    walk-tree t e h = walk-finds area (usedOf area) F marks (blank-zero scratch marks clear) (stepsMax area) (sym (ap ended same) ∙ sym e ∙ h)
 
-    pub walk-listed : (tree : Tree) → Sound area (usedOf area) tree → entriesOf (walkAt area used marks (stepsMax area)) ≡ listed tree
-    walk-listed tree S = ap entriesOf same ∙ walks area (usedOf area) F marks (blank-zero scratch marks clear) marked tree S .1
+    pub walk-listed : (tree : Tree) → Sound area (usedOf area) tree → entriesOf (toured area used marks) ≡ listed tree
+    walk-listed tree S = ap entriesOf same ∙ walk-lists area (usedOf area) F marks (blank-zero scratch marks clear) marked tree S
 
 -- every area is judged: the walk decides it
 pub judge : (area : List ℕ) → Judged area
 judge area =
     bool-cases (headerOk area)
     (λ h. bool-cases (frontOk area (usedOf area))
-    (λ f. bool-cases (ended (walkAt area (usedOf area) (blank area) (stepsMax area)))
+    (λ f. bool-cases (ended (toured area (usedOf area) (blank area)))
     (λ e. let T = walk-tree area (usedOf area) refl h f area (blank area) refl (omega arith) true (sym e) refl in sound (T .0) (T .1))
     (λ e. unsound (walk-none area (usedOf area) refl h f area (blank area) refl (omega arith) false (sym e) refl)))
     (λ f. unsound (front-none area (usedOf area) refl f)))
@@ -164,17 +167,17 @@ module _ (area scratch after : List ℕ) (n : ℕ) where
       let a : after ≡ blank scratch = cc in
       let b : n ≡ length (listed tree) = cc in
       record { header = h; room = leb-true (length area / wordSize) (length scratch) k; clear = a; many = b })
-      (λ k. let q : lists (accepted n) after [] ≡ lists (refuse Refusal.ShortBuffer) scratch [] = rw (h, k) at e in absurd (let z : _≡_ {A = ℕ} 0 1 = cc in omega arith)))
-      (λ h. let q : lists (accepted n) after [] ≡ lists (refuse Refusal.BadHeader) scratch [] = rw h at e in absurd (let z : _≡_ {A = ℕ} 0 1 = cc in omega arith))
+      (λ k. let q : lists (accepted n) after [] ≡ lists (refuse Refusal.ShortBuffer) scratch [] = rw (h, k) at e in clash cc))
+      (λ h. let q : lists (accepted n) after [] ≡ lists (refuse Refusal.BadHeader) scratch [] = rw h at e in clash cc)
 
   none-counted : (none : (tree : Tree) → Sound area (usedOf area) tree → ⊥) → lists (accepted n) after [] ≡ countSteps area scratch (unsound none) → ⊥
   unfolding surveySteps
   none-counted none e =
       bool-cases (headerOk area)
       (λ h. bool-cases (leb (length area / wordSize) (length scratch))
-      (λ k. let q : lists (accepted n) after [] ≡ lists (refuse Refusal.Damaged) (blank scratch) [] = rw (h, k) at e in absurd (let z : _≡_ {A = ℕ} 0 1 = cc in omega arith))
-      (λ k. let q : lists (accepted n) after [] ≡ lists (refuse Refusal.ShortBuffer) scratch [] = rw (h, k) at e in absurd (let z : _≡_ {A = ℕ} 0 1 = cc in omega arith)))
-      (λ h. let q : lists (accepted n) after [] ≡ lists (refuse Refusal.BadHeader) scratch [] = rw h at e in absurd (let z : _≡_ {A = ℕ} 0 1 = cc in omega arith))
+      (λ k. let q : lists (accepted n) after [] ≡ lists (refuse Refusal.Damaged) (blank scratch) [] = rw (h, k) at e in clash cc)
+      (λ k. let q : lists (accepted n) after [] ≡ lists (refuse Refusal.ShortBuffer) scratch [] = rw (h, k) at e in clash cc))
+      (λ h. let q : lists (accepted n) after [] ≡ lists (refuse Refusal.BadHeader) scratch [] = rw h at e in clash cc)
 
 module _ (area scratch after : List ℕ) (r : Listed) (counts : (judged : Judged area) → lists (listedAnswer r) after [] ≡ countSteps area scratch judged) (list : List ℕ) where
   again : (x : Listed) → r ≡ x → (judged : Judged area) → relist list judged (lists (listedAnswer x) after []) ≡ listSteps area scratch list judged

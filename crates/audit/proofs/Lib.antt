@@ -1,10 +1,4 @@
-pub mod MarkLaws
-pub mod ProbeLaws
-pub mod OrderLaws
-pub mod PathLaws
-pub mod WorkLaws
-pub mod StepLaws
-pub mod TourLaws
 pub mod RootLaws
 pub mod CheckLaws
+pub mod Telling
 pub mod Promises

@@ -5,21 +5,19 @@ ghost use Prim.Native.Nat.{_/_, _≤_};
 ghost use lib.ListN.{length};
 ghost use Rattle.words.specs.Words.{put};
 ghost use Rattle.layout.specs.Layout.{wordSize};
-ghost use Rattle.layout.specs.Refusals.{leaves, verdictNumber};
-ghost use Rattle.property_area.specs.Header.{headerOk};
-ghost use Rattle.audit.specs.Check.{usedOf, Judged, blank, checkSteps, lists, listedAnswer, listSteps};
+ghost use Rattle.trie.specs.Header.{headerOk};
+ghost use Rattle.audit.specs.Check.{usedOf, Judged, blank, CheckSays, lists, listedAnswer, ListSays};
 ghost use mathlib.Core.List.{[]};
 ghost use Rattle.sound.specs.Tree.{Tree, listed};
 ghost use Rattle.sound.specs.Sound.{Sound};
 ghost use Rattle.walk.specs.Model.{frontOk};
 ghost use Rattle.audit.specs.View.{judgedAnswer, countSteps};
-use crate::touring::tour;
 use layout::Backup;
 use layout::Header;
 use layout::Node;
 use layout::Refusal;
 use layout::Verdict;
-use property_area::header_ok;
+use trie::header_ok;
 
 // What listing answers: how many entries, or why none.
 pub enum Listed {
@@ -40,7 +38,7 @@ fn front_ok(area: &[u8], used: usize) -> bool
     if layout::data_size(area) < used {
         return false;
     }
-    let root = Node { at: 0 };
+    let root = Node { at: Node::ROOT };
     if root.namelen(area) != 0 {
         return false;
     }
@@ -65,7 +63,7 @@ fn survey(area: &[u8], scratch: &mut [u8], list: &mut [u32]) -> Listed
     if !front_ok(area, used) {
         return Listed::Refused(Refusal::Damaged);
     }
-    let walked = tour(area, scratch, list, used);
+    let walked = tour::tour(area, scratch, list, used);
     words::clear(scratch);
     if !walked.ended {
         return Listed::Refused(Refusal::Damaged);
@@ -89,7 +87,7 @@ fn count(area: &[u8], scratch: &mut [u8]) -> Listed
 
 // Whether an area is sound. Scratch: area length / 4 bytes or more, with any content; it ends zero unless 8 or scratch's 10 is given.
 pub fn check(area: &[u8], scratch: &mut [u8]) -> Verdict
-    ensures { λ r. ⌜ ((judged : Judged (now (area .entry))) → leaves (verdictNumber r) (now (scratch .exit)) ≡ checkSteps (now (area .entry)) (now (scratch .entry)) judged) ⌝ }
+    ensures { λ r. ⌜ CheckSays (now (area .entry)) (now (scratch .entry)) r (now (scratch .exit)) ⌝ }
 {
     match count(area, scratch) {
         Listed::Entries(entries) => Verdict::Accepted,
@@ -100,7 +98,7 @@ pub fn check(area: &[u8], scratch: &mut [u8]) -> Verdict
 // Writes the entries' offsets (left side, own entry, children, right side) and answers how many; on any refusal the list is kept.
 // Scratch as for check.
 pub fn list(area: &[u8], scratch: &mut [u8], list: &mut [u32]) -> Listed
-    ensures { λ r. ⌜ ((judged : Judged (now (area .entry))) → lists (listedAnswer r) (now (scratch .exit)) (now (list .exit)) ≡ listSteps (now (area .entry)) (now (scratch .entry)) (now (list .entry)) judged) ⌝ }
+    ensures { λ r. ⌜ ListSays (now (area .entry)) (now (scratch .entry)) (now (list .entry)) r (now (scratch .exit)) (now (list .exit)) ⌝ }
 {
     match count(area, scratch) {
         Listed::Refused(why) => Listed::Refused(why),

@@ -13,14 +13,15 @@ use Rattle.layout.specs.declared.refusal.Refusal.{Refusal}
 use Rattle.layout.specs.declared.refusal.Verdict.{Verdict}
 use Rattle.layout.specs.Layout.{formatMin, areaMax, usedField, magicField, versionField, magic, version, firstFree, rootAt}
 use Rattle.layout.specs.Refusals.{leaves, noRefusal, numberOf, verdictNumber}
-use Rattle.property_area.specs.Header.{headerOk}
-use Rattle.builder.specs.declared.allocation.Placed.{Placed}
-use Rattle.builder.specs.Steps.{andThen, seen, placedStep, placedNumber, outcome}
+use Rattle.trie.specs.Header.{headerOk}
+use Rattle.allocation.specs.declared.Placed.{Placed}
+use Rattle.allocation.specs.Steps.{andThen, outcome}
+use Rattle.allocation.specs.View.{seen, placedStep, placedNumber}
 use Rattle.builder.specs.Fresh.{fresh, formatSteps}
-use Rattle.builder.specs.Nodes.{addPath}
-use Rattle.builder.specs.Entries.{addEntry}
+use Rattle.nodes.specs.Nodes.{addPath}
+use Rattle.entries.specs.Entries.{addEntry}
 use Rattle.builder.specs.Add.{anyEmpty, nameVerdict, addSteps}
-use Rattle.builder.proofs.StepLaws.{placed-on, placed-stop, placed-outcome}
+use Rattle.allocation.proofs.StepLaws.{placed-on, placed-stop, placed-outcome}
 
 -- ---- format
 module _ (area : List ℕ) where
@@ -71,30 +72,35 @@ module _ (name : List ℕ) (place : ℕ) (e : place ≡ firstIn 0 name 0 (length
     name-fine f = rw (← scanned, le-ltb place (length name) h, f)
 
 -- ---- add
+-- what is known once every test is passed
+pub record Tested (area name : List ℕ) : Type 0 where
+  pub header : headerOk area ≡ true
+  pub named : nameVerdict name ≡ Verdict.Accepted
+
 module _ (area name value : List ℕ) where
   pub add-header : headerOk area ≡ false → leaves (numberOf Refusal.BadHeader) area ≡ outcome (addSteps area name value)
   unfolding addSteps
   add-header h = rw h
 
-  module _ (h : headerOk area ≡ true) (v : Verdict) (e : v ≡ nameVerdict name) where
-    pub add-unnamed : (why : Refusal) → v ≡ Verdict.Refused why → leaves (verdictNumber v) area ≡ outcome (addSteps area name value)
+  pub add-unnamed : headerOk area ≡ true → (v : Verdict) → v ≡ nameVerdict name → (why : Refusal) → v ≡ Verdict.Refused why
+      → leaves (verdictNumber v) area ≡ outcome (addSteps area name value)
+  unfolding addSteps
+  add-unnamed h v e why f = rw (h, ← e, f)
+
+  module _ (t : Tested area name) (r : Placed) (after : List ℕ) (g : placedStep r after ≡ seen (addPath area (segments name) rootAt)) where
+    walks : outcome (andThen (addPath area (segments name) rootAt) (λ node after. addEntry after name value node)) ≡ outcome (addSteps area name value)
     unfolding addSteps
-    add-unnamed why f = rw (h, ← e, f)
+    walks = rw (t .header, t .named)
 
-    module _ (f : v ≡ Verdict.Accepted) (r : Placed) (after : List ℕ) (g : placedStep r after ≡ seen (addPath area (segments name) rootAt)) where
-      walks : outcome (andThen (addPath area (segments name) rootAt) (λ node after. addEntry after name value node)) ≡ outcome (addSteps area name value)
-      unfolding addSteps
-      walks = rw (h, ← e, f)
+    pub add-stop : (why : Refusal) → r ≡ Placed.Refused why → leaves (placedNumber r) after ≡ outcome (addSteps area name value)
+    add-stop why k =
+        placed-outcome (andThen (addPath area (segments name) rootAt) (λ node after. addEntry after name value node)) r after
+        (placed-stop (addPath area (segments name) rootAt) r after g (λ node after. addEntry after name value node) why k)
+        ∙ walks
 
-      pub add-stop : (why : Refusal) → r ≡ Placed.Refused why → leaves (placedNumber r) after ≡ outcome (addSteps area name value)
-      add-stop why k =
-          placed-outcome (andThen (addPath area (segments name) rootAt) (λ node after. addEntry after name value node)) r after
-          (placed-stop (addPath area (segments name) rootAt) r after g (λ node after. addEntry after name value node) why k)
-          ∙ walks
-
-      pub add-done : (node : ℕ) → r ≡ Placed.At node → (s : Placed) (last : List ℕ) → placedStep s last ≡ seen (addEntry after name value node)
-          → leaves (placedNumber s) last ≡ outcome (addSteps area name value)
-      add-done node k s last l =
-          placed-outcome (andThen (addPath area (segments name) rootAt) (λ node after. addEntry after name value node)) s last
-          (l ∙ placed-on (addPath area (segments name) rootAt) r after g (λ node after. addEntry after name value node) node k)
-          ∙ walks
+    pub add-done : (node : ℕ) → r ≡ Placed.At node → (s : Placed) (last : List ℕ) → placedStep s last ≡ seen (addEntry after name value node)
+        → leaves (placedNumber s) last ≡ outcome (addSteps area name value)
+    add-done node k s last l =
+        placed-outcome (andThen (addPath area (segments name) rootAt) (λ node after. addEntry after name value node)) s last
+        (l ∙ placed-on (addPath area (segments name) rootAt) r after g (λ node after. addEntry after name value node) node k)
+        ∙ walks

@@ -1,7 +1,4 @@
-pub mod StepLaws
-pub mod AllocateLaws
-pub mod NodeLaws
-pub mod EntryLaws
 pub mod AddLaws
+pub mod Keeping
 pub mod Used
 pub mod Promises

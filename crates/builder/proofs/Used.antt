@@ -17,14 +17,14 @@ use Rattle.layout.specs.Layout.{wordSize, wordMax, headerSize, byteOf, usedFiel
 use Rattle.layout.specs.Layout.{entryTakes, valueTakes, entrySize, serialField, slotField, slotSize, messageField, longOffsetField, rootAt, dataSize, placeOf, headerWord, wordAt, nodeOk, entryOk}
 use Rattle.layout.specs.Refusals.{byVerdict}
 use Rattle.property_info.specs.Written.{shortStores, longStores}
-use Rattle.property_area.specs.declared.trie.Searched.{Searched}
-use Rattle.property_area.specs.Header.{headerOk}
-use Rattle.property_area.specs.Trie.{nodesMax, searchFrom}
-use Rattle.property_area.proofs.HeaderLaws.{header-min}
-use Rattle.builder.specs.Steps.{total, Step, goes, stops, stopBy, withRooms, andThen}
-use Rattle.builder.specs.Allocate.{allocate}
-use Rattle.builder.specs.Nodes.{nodeStores, layNode, newNode, linkTo, hangNode, orHang, addNode, addSegment, addPath}
-use Rattle.builder.specs.Entries.{layEntry, longEntry, newEntry, addEntry}
+use Rattle.trie.specs.declared.trie.Searched.{Searched}
+use Rattle.trie.specs.Header.{headerOk}
+use Rattle.trie.specs.Trie.{nodesMax, searchFrom}
+use Rattle.trie.proofs.HeaderLaws.{header-min}
+use Rattle.allocation.specs.Steps.{total, Step, goes, stops, stopBy, withRooms, andThen, linkTo}
+use Rattle.allocation.specs.Allocate.{allocate}
+use Rattle.nodes.specs.Nodes.{nodeStores, layNode, newNode, hangNode, orHang, addNode, addSegment, addPath}
+use Rattle.entries.specs.Entries.{layEntry, longEntry, newEntry, addEntry}
 use Rattle.builder.specs.Add.{nameVerdict, addSteps}
 
 pub total-append : (a b : List ℕ) → total (a ++ b) ≡ total a + total b

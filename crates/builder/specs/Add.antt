@@ -9,11 +9,11 @@ use Rattle.names.specs.Names.{segments}
 use Rattle.layout.specs.declared.refusal.Refusal.{Refusal}
 use Rattle.layout.specs.declared.refusal.Verdict.{Verdict}
 use Rattle.layout.specs.Layout.{rootAt}
-use Rattle.layout.specs.Refusals.{byVerdict}
-use Rattle.property_area.specs.Header.{headerOk}
-use Rattle.builder.specs.Steps.{Step, stopBy, andThen}
-use Rattle.builder.specs.Nodes.{addPath}
-use Rattle.builder.specs.Entries.{addEntry}
+use Rattle.layout.specs.Refusals.{guard, byVerdict}
+use Rattle.trie.specs.Header.{headerOk}
+use Rattle.allocation.specs.Steps.{Step, stopBy, andThen}
+use Rattle.nodes.specs.Nodes.{addPath}
+use Rattle.entries.specs.Entries.{addEntry}
 
 -- some segment is empty
 unfoldable pub anyEmpty : List (List ℕ) → Bool
@@ -23,13 +23,13 @@ anyEmpty (segment ∷ rest) = eqb (length segment) 0 || anyEmpty rest
 -- any zero byte in the name is 1; then any empty segment is 2
 unfoldable pub nameVerdict : List ℕ → Verdict
 nameVerdict name =
-    cond (hasZero name)
-    (Verdict.Refused Refusal.ZeroByte)
-    (cond (anyEmpty (segments name)) (Verdict.Refused Refusal.EmptySegment) Verdict.Accepted)
+    cond (hasZero name) (Verdict.Refused Refusal.ZeroByte)
+    (cond (anyEmpty (segments name)) (Verdict.Refused Refusal.EmptySegment)
+    Verdict.Accepted)
 
 -- 8; the name's tests; the walk; the entry
 unfoldable pub addSteps : List ℕ → List ℕ → List ℕ → Step
 addSteps area name value =
-    cond (headerOk area)
-    (byVerdict (nameVerdict name) (stopBy area) (andThen (addPath area (segments name) rootAt) (λ node after. addEntry after name value node)))
-    (stopBy area Refusal.BadHeader)
+    guard (headerOk area) (stopBy area Refusal.BadHeader)
+    (byVerdict (nameVerdict name) (stopBy area)
+    (andThen (addPath area (segments name) rootAt) (λ node after. addEntry after name value node)))

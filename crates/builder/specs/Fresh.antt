@@ -1,12 +1,12 @@
 -- Formatting (document 01): it zeroes the whole buffer and sets used to 112, magic and version; length outside 240 to 131,072: 8.
 use Prim.Native.Nat.{ℕ}
-use mathlib.Core.Bool.{cond, _&&_}
+use mathlib.Core.Bool.{_&&_}
 use mathlib.Core.List.{List, [], _∷_}
 use lib.ListN.{length, replicate}
 use lib.Dec.{leb}
 use Rattle.words.specs.Stores.{store, wordStore, run}
 use Rattle.layout.specs.declared.refusal.Refusal.{Refusal}
-use Rattle.layout.specs.Refusals.{Outcome, acceptLeaving, refuseLeaving}
+use Rattle.layout.specs.Refusals.{guard, Outcome, acceptLeaving, refuseLeaving}
 use Rattle.layout.specs.Layout.{formatMin, areaMax, usedField, magicField, versionField, magic, version, firstFree}
 
 unfoldable pub fresh : ℕ → List ℕ
@@ -14,4 +14,4 @@ fresh n = run (replicate n 0) (wordStore usedField firstFree ∷ store magicFiel
 
 unfoldable pub formatSteps : List ℕ → Outcome
 formatSteps area =
-    cond (leb formatMin (length area) && leb (length area) areaMax) (acceptLeaving (fresh (length area))) (refuseLeaving area Refusal.BadHeader)
+    guard (leb formatMin (length area) && leb (length area) areaMax) (refuseLeaving area Refusal.BadHeader) (acceptLeaving (fresh (length area)))

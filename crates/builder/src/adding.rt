@@ -2,11 +2,9 @@
 ghost use mathlib.Core.Path.{_≡_};
 ghost use Rattle.names.specs.Names.{segments};
 ghost use Rattle.layout.specs.Refusals.{leaves, verdictNumber};
-ghost use Rattle.builder.specs.Steps.{outcome};
+ghost use Rattle.allocation.specs.Steps.{outcome};
 ghost use Rattle.builder.specs.Add.{anyEmpty, nameVerdict, addSteps};
-use crate::allocation::Placed;
-use crate::entries::add_entry;
-use crate::nodes::add_path;
+use allocation::Placed;
 use layout::Refusal;
 use layout::Verdict;
 use names::NameCursor;
@@ -29,7 +27,7 @@ fn has_empty(name: &[u8]) -> bool
     }
 }
 
-// Whether a name can be added.
+// Whether a name can be added. A zero byte in it would end the stored name early, and it would not be found again.
 fn name_verdict(name: &[u8]) -> Verdict
     ensures { λ r. ⌜ r ≡ nameVerdict (now (name .entry)) ⌝ }
 {
@@ -46,16 +44,17 @@ fn name_verdict(name: &[u8]) -> Verdict
 pub fn add(area: &mut [u8], name: &[u8], value: &[u8]) -> Verdict
     ensures { λ r. ⌜ leaves (verdictNumber r) (now (area .exit)) ≡ outcome (addSteps (now (area .entry)) (now (name .entry)) (now (value .entry))) ⌝ }
 {
-    if !property_area::header_ok(area) {
+    if !trie::header_ok(area) {
         return Verdict::Refused(Refusal::BadHeader);
     }
+    // The whole name is judged before the walk: refused on the way, it would leave nodes behind that belong to no name.
     let named = name_verdict(name);
     let Verdict::Accepted = named else {
         return named;
     };
-    let walked = add_path(area, name);
+    let walked = nodes::add_path(area, name);
     let Placed::At(node) = walked else {
         return walked.verdict();
     };
-    add_entry(area, node, name, value).verdict()
+    entries::add_entry(area, node, name, value).verdict()
 }

@@ -17,9 +17,10 @@ pub fn format(area: &mut [u8]) -> Verdict
     if Header::AREA_MAX < area.len() {
         return Verdict::Refused(Refusal::BadHeader);
     }
+    let magic = Header::PROP_AREA_MAGIC;
     words::clear(area);
     words::put_word(area, Header::USED, Backup::END as u32);
-    words::copy(area, Header::MAGIC, b"PROP");
+    words::copy(area, Header::MAGIC, &magic);
     words::put_word(area, Header::VERSION, Header::PROP_AREA_VERSION);
     Verdict::Accepted
 }

@@ -1,9 +1,6 @@
-// Building an area: format, and add with all that it lays down.
+// Building an area: format and add.
 mod adding;
-mod allocation;
-mod entries;
 mod fresh;
-mod nodes;
 
 pub use adding::add;
 pub use fresh::format;

@@ -4,10 +4,10 @@ use mathlib.Core.List.{List}
 use Prim.Native.Nat.{ℕ, _-_}
 use Rattle.layout.specs.declared.refusal.Refusal.{Refusal}
 use Rattle.layout.specs.Refusals.{Answer, numberOf}
-use Rattle.property_area.specs.declared.lookup.Found.{Found}
-use Rattle.property_area.specs.declared.values.Shown.{Shown}
+use Rattle.property_area.specs.declared.descent.Found.{Found}
+use Rattle.property_area.specs.declared.values.ValuePart.{ValuePart}
 use Rattle.property_area.specs.Find.{Hit, foundAnswer}
-use Rattle.property_area.specs.Value.{Part, shownAnswer}
+use Rattle.property_area.specs.Value.{Part, partAnswer}
 use Rattle.audit.specs.declared.checking.Listed.{Listed}
 use Rattle.audit.specs.Check.{Judged, lists, listedAnswer, listSteps}
 use Rattle.capi.specs.declared.PaCount.{PaCount}
@@ -30,11 +30,11 @@ module _ (answer : Answer Hit) (f : Found) (e : foundAnswer f ≡ answer) where
   found-refused why g number h = rw (← e, g, h)
 
 -- s is what value answered
-module _ (answer : Answer Part) (s : Shown) (e : shownAnswer s ≡ answer) where
-  pub part-bytes : (from to : ℕ) → s ≡ Shown.Bytes from to → c-part 0 from (to - from) ≡ partStruct answer
+module _ (answer : Answer Part) (s : ValuePart) (e : partAnswer s ≡ answer) where
+  pub part-bytes : (from to : ℕ) → s ≡ ValuePart.Bytes from to → c-part 0 from (to - from) ≡ partStruct answer
   part-bytes from to g = rw (← e, g)
 
-  pub part-refused : (why : Refusal) → s ≡ Shown.Refused why → (number : ℕ) → number ≡ numberOf why → c-part number 0 0 ≡ partStruct answer
+  pub part-refused : (why : Refusal) → s ≡ ValuePart.Refused why → (number : ℕ) → number ≡ numberOf why → c-part number 0 0 ≡ partStruct answer
   part-refused why g number h = rw (← e, g, h)
 
 abbrev c-count : ℕ → ℕ → PaCount

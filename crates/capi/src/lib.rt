@@ -4,7 +4,7 @@ ghost use Rattle.layout.specs.Refusals.{leaves};
 ghost use Rattle.property_area.specs.Find.{findSteps};
 ghost use Rattle.property_area.specs.Value.{valueSteps};
 ghost use Rattle.property_area.specs.Backup.{backupSteps};
-ghost use Rattle.builder.specs.Steps.{outcome};
+ghost use Rattle.allocation.specs.Steps.{outcome};
 ghost use Rattle.builder.specs.Fresh.{formatSteps};
 ghost use Rattle.builder.specs.Add.{addSteps};
 ghost use Rattle.updates.specs.Update.{updateSteps, rawSteps};
@@ -13,7 +13,7 @@ ghost use Rattle.counters.specs.Distance.{distance};
 ghost use Rattle.capi.specs.Capi.{foundStruct, partStruct, counts, listingStruct};
 use audit::Listed;
 use property_area::Found;
-use property_area::Shown;
+use property_area::ValuePart;
 
 // Refusal 0: found. Where refused the rest is 0.
 #[repr(C)]
@@ -68,12 +68,12 @@ pub extern "C" fn pa_value(area: &[u8], entry: u32) -> PaPart
     ensures { λ r. ⌜ r ≡ partStruct (valueSteps (now (area .entry)) entry) ⌝ }
 {
     match property_area::value(area, entry) {
-        Shown::Bytes { from, to } => PaPart {
+        ValuePart::Bytes { from, to } => PaPart {
             refusal: 0,
             start: from as u32,
             length: (to - from) as u64,
         },
-        Shown::Refused(why) => PaPart {
+        ValuePart::Refused(why) => PaPart {
             refusal: why.number(),
             start: 0,
             length: 0,

@@ -1,15 +1,7 @@
 -- Update distance (document 01).
-use Prim.Native.Nat.{ℕ, _+_, _-_, _*_, _/_, _%_}
+use Prim.Native.Nat.{ℕ, _+_, _-_, _%_}
 use mathlib.Core.List.{List, [], _∷_}
-use Rattle.property_info.specs.Serial.{updatedSerial}
-
--- how many positions there are: they go round
-abbrev pub positions : ℕ
-positions = 32768
-
--- position is (serial mod 65,536) / 2 rounded down
-abbrev pub position : ℕ → ℕ
-position serial = serial % (2 * positions) / 2
+use Rattle.property_info.specs.Serial.{updatedSerial, positions, position}
 
 -- the difference of positions mod 32,768
 abbrev pub distance : ℕ → ℕ → ℕ

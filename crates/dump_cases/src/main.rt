@@ -6,11 +6,11 @@ fn print(text: &[u8]) {
     io::write_all(STDOUT_FILENO, text);
 }
 
-fn show(area: &[u8]) {
+fn show(file: &[u8]) {
     print(b"-- ");
-    print(area);
+    print(file);
     print(b"\n");
-    programs::dump_file(area);
+    programs::dump_file(file);
 }
 
 fn main() {

@@ -1,5 +1,6 @@
--- What a lookup compares, whatever its answer: at most the nodes of the tree. And the only refusals.
+-- What a search compares, whatever its answer: at most the nodes of the tree. And the only refusals.
 use Prim.Native.Nat.{ℕ, _+_, _≤_}
+use native.Mathlib.Nat.{zero-add}
 use native.Mathlib.Omega.{arith}
 use mathlib.Core.Path.{_≡_, refl}
 use mathlib.Core.Logic.{_⊎_, inl, inr}
@@ -38,7 +39,7 @@ unfolding ownAnswer
 own-counts bare compared total e = inl refl
 own-counts (entry at serial name value) compared total e = e
 
-pub look-counts : (segs : List (List ℕ)) (own : Entry) (below : Tree) (compared total : ℕ) → compared + costs segs below ≡ total → Counts total (look segs own below compared)
+look-counts : (segs : List (List ℕ)) (own : Entry) (below : Tree) (compared total : ℕ) → compared + costs segs below ≡ total → Counts total (look segs own below compared)
 unfolding costs look
 look-counts [] own below compared total e = own-counts own compared total (omega arith)
 look-counts (segment ∷ rest) own below compared total e =
@@ -51,3 +52,7 @@ look-counts (segment ∷ rest) own below compared total e =
         → Counts total (byNode end (refuse Refusal.Missing) (λ next under. look rest next under (compared + compares segment below)))
     by leaf e on = inl refl
     by (node at name next left under right) e on = on next under (compared + compares segment below) total (omega arith)
+
+-- from the root on
+pub look-counted : (segs : List (List ℕ)) (tree : Tree) → Counts (costs segs tree) (look segs bare tree 0)
+look-counted segs tree = look-counts segs bare tree 0 (costs segs tree) (zero-add (costs segs tree))

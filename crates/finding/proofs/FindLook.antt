@@ -1,4 +1,4 @@
--- In a sound area, find over the bytes is the tree's lookup: same answer, same count.
+-- In a sound area, find over the bytes is the tree's search: same answer, same count.
 use Prim.Native.Nat.{ℕ, _+_, _%_, _≤_, _<_}
 use native.Mathlib.Omega.{arith}
 use mathlib.Core.Path.{_≡_, refl}
@@ -14,8 +14,8 @@ use Rattle.layout.specs.declared.refusal.Refusal.{Refusal}
 use Rattle.layout.specs.Refusals.{refuse}
 use Rattle.layout.proofs.Promises.{touch-yes}
 use Rattle.property_area.specs.Find.{countLimit, bySearch, propSteps, findFrom, findSteps}
-use Rattle.property_area.proofs.HeaderLaws.{header-max}
-use Rattle.property_area.proofs.TrieLaws.{segment-empty}
+use Rattle.trie.proofs.HeaderLaws.{header-max}
+use Rattle.trie.proofs.TrieLaws.{segment-empty}
 use Rattle.sound.specs.Tree.{Entry, bare, entry, Tree, leaf, node, link, entryLink}
 use Rattle.sound.specs.Sound.{TreeRule, Sound}
 use Rattle.sound.specs.Ways.{Dir, toLeft, toBelow, toRight, toward, reached, nodes}

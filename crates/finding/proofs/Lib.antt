@@ -6,4 +6,5 @@ pub mod LookWays
 pub mod Costs
 pub mod ValueReads
 pub mod WalkCost
+pub mod Found
 pub mod Promises

@@ -1,4 +1,4 @@
--- Lookup and ways: the names along a way are looked up at its end, and every lookup that finds an entry goes along such a way.
+-- Search and ways: the names along a way are found at its end, and every search that finds an entry goes along such a way.
 use Prim.Native.Nat.{ℕ, _+_, _≤_}
 use native.Mathlib.Nat.{add-assoc}
 use native.Mathlib.Omega.{arith}
@@ -7,7 +7,7 @@ use mathlib.Core.List.{List, [], _∷_, _++_}
 use lib.Dec.{eqb}
 use lib.ListN.{length}
 use borrow.Author.Tests.{ne-eqb}
-use Rattle.words.proofs.Laws.{bool-cases}
+use Rattle.words.proofs.Laws.{bool-cases, clash}
 use Rattle.names.specs.Names.{dot, segmentOrder}
 use Rattle.names.specs.declared.Order.{Order}
 use Rattle.names.specs.declared.Order.the-variants.{Less, Equal, Greater}
@@ -42,7 +42,7 @@ side-first : (way : List Dir) (order : Order) (name : List ℕ) (tree : Tree) (a
     → ownOf (reached tree way) ≡ entry at serial full value
     → (segment : List ℕ) × (rest : List (List ℕ)) × (namesTo tree way ≡ segment ∷ rest) × (segmentOrder segment name ≡ order)
 unfolding reached toward namesTo Side
-side-first [] order name leaf at serial full value side is = absurd (let q : _≡_ {A = ℕ} 0 1 = cc in omega arith)
+side-first [] order name leaf at serial full value side is = clash cc
 side-first (dir ∷ way) order name leaf at serial full value side is = side-first way order name leaf at serial full value side is
 side-first [] order name (node place other own left below right) at serial full value side is = (other, [], refl, side .0)
 side-first (toLeft ∷ way) order name (node place other own left below right) at serial full value side is = side-first way order name left at serial full value (side .1) is
@@ -52,7 +52,7 @@ side-first (toRight ∷ way) order name (node place other own left below right) 
 pub look-names : (way : List Dir) (prefix : List ℕ) (tree : Tree) (above : Entry) (compared at serial : ℕ) (full : List ℕ) (value : Value) → TreeRule prefix tree
     → ownOf (reached tree way) ≡ entry at serial full value → (count : ℕ) × (look (namesTo tree way) above tree compared ≡ accepted (hit at count))
 unfolding reached toward namesTo TreeRule look ownAnswer
-look-names [] prefix leaf above compared at serial full value rule is = absurd (let q : _≡_ {A = ℕ} 0 1 = cc in omega arith)
+look-names [] prefix leaf above compared at serial full value rule is = clash cc
 look-names (dir ∷ way) prefix leaf above compared at serial full value rule is = look-names way prefix leaf above compared at serial full value rule is
 look-names [] prefix (node place name own left below right) above compared at serial full value rule is =
     (compared + 1, look-here place name own left below right (name ∷ []) name [] refl above compared (rule .0 .some) refl ∙ rw is)
@@ -125,7 +125,7 @@ spot-named segment (node at name own left below right) = by (segmentOrder segmen
 own-leads : (at : ℕ) (name : List ℕ) (own : Entry) (left below right : Tree) (segment : List ℕ) (compared place count : ℕ) → segment ≡ name
     → ownAnswer own compared ≡ accepted (hit place count) → LeadsTo (node at name own left below right) (segment ∷ []) place
 unfolding ownAnswer reached namesTo
-own-leads at name bare left below right segment compared place count named e = absurd (let q : _≡_ {A = ℕ} 0 1 = cc in omega arith)
+own-leads at name bare left below right segment compared place count named e = clash cc
 own-leads at name (entry from serial full value) left below right segment compared place count named e =
     let same : from ≡ place = cc in
     record { way = []; serial = serial; name = full; value = value; own = (cc); names = (cc) }
@@ -146,7 +146,7 @@ module _ (segment : List ℕ) (rest : List (List ℕ)) (above : Entry) (tree : T
       → ((place : ℕ) (name : List ℕ) (own : Entry) (left below right : Tree) → segment ≡ name → later own below ≡ accepted (hit at count)
       → LeadsTo (node place name own left below right) (segment ∷ rest) at)
       → LeadsTo end (segment ∷ rest) at
-  end-leads leaf named e on = absurd (let q : _≡_ {A = ℕ} 0 1 = cc in omega arith)
+  end-leads leaf named e on = clash cc
   end-leads (node place name own left below right) named e on = on place name own left below right named e
 
   first-leads : look (segment ∷ rest) above tree compared ≡ accepted (hit at count)
@@ -156,7 +156,7 @@ module _ (segment : List ℕ) (rest : List (List ℕ)) (above : Entry) (tree : T
   unfolding look
   first-leads e on =
       bool-cases (eqb (length segment) 0)
-      (λ t. let k : refuse Refusal.EmptySegment ≡ accepted (hit at count) = rw t at e in absurd (let q : _≡_ {A = ℕ} 0 1 = cc in omega arith))
+      (λ t. let k : refuse Refusal.EmptySegment ≡ accepted (hit at count) = rw t at e in clash cc)
       (λ t. leads-spot segment tree (segment ∷ rest) at (end-leads (reached tree (spot segment tree)) (spot-named segment tree) (rw t at e) on))
 
 pub look-leads : (rest : List (List ℕ)) (segment : List ℕ) (above : Entry) (tree : Tree) (compared at count : ℕ)
@@ -172,5 +172,5 @@ look-leads (next ∷ rest) segment above tree compared at count e =
 
 pub found-leads : (segs : List (List ℕ)) (tree : Tree) (at count : ℕ) → look segs bare tree 0 ≡ accepted (hit at count) → LeadsTo tree segs at
 unfolding look ownAnswer
-found-leads [] tree at count e = absurd (let q : _≡_ {A = ℕ} 0 1 = cc in omega arith)
+found-leads [] tree at count e = clash cc
 found-leads (segment ∷ rest) tree at count e = look-leads rest segment bare tree 0 at count e

@@ -17,8 +17,8 @@ use Rattle.layout.specs.declared.text.Span.{Span}
 use Rattle.layout.specs.Layout.{nodeSize, entrySize, namelenField, propField, leftField, rightField, childrenField}
 use Rattle.layout.specs.Layout.{firstFree, dataSize, byteOf, placeOf, wordAt, nodeOk, entryOk, nodeTakes, entryTakes, textIn}
 use Rattle.layout.proofs.Promises.{touch-yes}
-use Rattle.property_area.specs.declared.trie.Visited.{Visited}
-use Rattle.property_area.specs.Trie.{nodeName, follow, byOrder, visitNode}
+use Rattle.trie.specs.declared.trie.Visited.{Visited}
+use Rattle.trie.specs.Trie.{nodeName, follow, byOrder, visitNode}
 use Rattle.sound.specs.Tree.{Value, Entry, bare, entry, Tree, node, link, entryLink, inside, entryCover, cover}
 use Rattle.sound.specs.Sound.{Holds, HoldsText, TreeAt, Without, EntryRule, TreeRule, Room, Sound}
 use Rattle.sound.specs.Ways.{nodes}

@@ -12,9 +12,9 @@ use Rattle.words.proofs.Laws.{bool-cases}
 use Rattle.names.specs.Names.{segmentOrder}
 use Rattle.names.specs.declared.Order.{Order}
 use Rattle.layout.specs.Layout.{leftField, rightField, childrenField, nodeOk, wordAt}
-use Rattle.property_area.specs.declared.trie.Visited.{Visited}
-use Rattle.property_area.specs.declared.trie.Searched.{Searched}
-use Rattle.property_area.specs.Trie.{follow, nodesMax, byVisit, searchFrom, childSteps, segmentSteps}
+use Rattle.trie.specs.declared.trie.Visited.{Visited}
+use Rattle.trie.specs.declared.trie.Searched.{Searched}
+use Rattle.trie.specs.Trie.{follow, nodesMax, byVisit, searchFrom, childSteps, segmentSteps}
 use Rattle.sound.specs.Tree.{Tree, leaf, node, link}
 use Rattle.sound.specs.Ways.{Dir, toLeft, toBelow, toRight, toward, reached, nodes, linkField}
 use Rattle.finding.specs.Look.{turn, spot, compares}

@@ -4,6 +4,7 @@ use native.Mathlib.Omega.{arith}
 use mathlib.Core.Path.{_≡_, refl, sym, _∙_}
 use mathlib.Core.List.{List, [], _∷_, _++_, append-assoc}
 use borrow.Author.Tests.{ne-eqb}
+use Rattle.words.proofs.Laws.{clash}
 use Rattle.names.specs.Names.{dot, segments}
 use Rattle.names.proofs.Promises.{segments-name}
 use Rattle.sound.specs.Tree.{Value, Entry, bare, entry, Tree, leaf, node}
@@ -42,7 +43,7 @@ one-name a b e = sym (rw e at (segments-name a)) ∙ segments-name b
 pub spelled : (way : List Dir) (prefix : List ℕ) (tree : Tree) (at serial : ℕ) (name : List ℕ) (value : Value) → TreeRule prefix tree
     → ownOf (reached tree way) ≡ entry at serial name value → (rest : List ℕ) × (name ≡ prefix ++ rest) × (segments rest ≡ namesTo tree way)
 unfolding reached toward namesTo TreeRule EntryRule
-spelled [] prefix leaf at serial name value rule is = absurd (let q : _≡_ {A = ℕ} 0 1 = cc in omega arith)
+spelled [] prefix leaf at serial name value rule is = clash cc
 spelled (dir ∷ way) prefix leaf at serial name value rule is = spelled way prefix leaf at serial name value rule is
 spelled [] prefix (node place segment own left below right) at serial name value rule is =
     let named : EntryRule (prefix ++ segment) (entry at serial name value) = rw is at (rule .1) in

@@ -8,18 +8,17 @@ use mathlib.Core.List.{List, _++_}
 use lib.Dec.{eqb}
 use lib.ListN.{length, getD, take}
 use lib.Seq.{getD-take, length-take-le}
-use borrow.Author.Tests.{eq-eqb, ne-eqb}
-use Rattle.finding.specs.Look.{shows}
+use Rattle.finding.specs.Look.{valueText}
 use Rattle.words.specs.Words.{firstIn, part}
-use Rattle.words.proofs.Laws.{bool-cases, first-high}
+use Rattle.words.proofs.Laws.{bool-cases, clash, first-high}
 use Rattle.layout.specs.declared.text.Span.{Span}
-use Rattle.layout.specs.Layout.{entrySize, serialField, slotField, slotSize, longOffsetField, longBit, firstFree, dataSize, byteOf, placeOf, wordAt, entryOk, entryTakes, valueTakes}
+use Rattle.layout.specs.Layout.{entrySize, serialField, slotField, slotSize, longOffsetField, firstFree, dataSize, byteOf, placeOf, wordAt, entryOk, entryTakes, valueTakes}
 use Rattle.layout.specs.Refusals.{accepted}
-use Rattle.property_area.specs.Header.{headerOk}
-use Rattle.property_area.specs.Value.{bytes, partSteps, partOf}
+use Rattle.trie.specs.Header.{headerOk}
+use Rattle.property_area.specs.Value.{bytes, partSteps, partOrNone}
 use Rattle.property_area.proofs.ValueLaws.{part-bytes}
-use Rattle.property_info.specs.Entry.{isLong, shortValue, textFrom, nameOf, longValue, valueOf}
-use Rattle.property_info.proofs.Laws.{long-behind, value-long, value-short}
+use Rattle.property_info.specs.Entry.{shortValue, textFrom, nameOf, longValue, valueOf}
+use Rattle.property_info.proofs.Laws.{long-is, short-is, long-behind, value-long, value-short}
 use Rattle.sound.specs.Tree.{Value, short, long, entry, Tree, leaf, node, valueCover, entryCover}
 use Rattle.sound.specs.Sound.{Holds, HoldsText, ValueAt, EntryAt, TreeAt, Without, ValueRule, EntryRule, TreeRule}
 use Rattle.sound.proofs.Holding.{text-bytes}
@@ -46,15 +45,15 @@ pub record Reads (area : List ℕ) (span : Span) (shown : List ℕ) : Type 0 whe
 
 -- where its entry can be touched, that part is told
 pub part-shown : (area : List ℕ) (at : ℕ) (span : Span) (shown : List ℕ) → headerOk area ≡ true → entryOk area at ≡ true → Reads area span shown
-    → (from : ℕ) × (to : ℕ) × (partSteps area at span ≡ accepted (bytes from to)) × (partOf area (partSteps area at span) ≡ shown)
+    → (from : ℕ) × (to : ℕ) × (partSteps area at span ≡ accepted (bytes from to)) × (partOrNone area (partSteps area at span) ≡ shown)
 part-shown area at span shown header touched reads =
     let there = sym (part-bytes area at span header touched span refl (reads .from) (reads .to) (reads .is)) in
     (reads .from, reads .to, there, rw there (reads .bytes))
 
 module _ (area : List ℕ) (used : ℕ) (low : firstFree ≤ used) (high : used ≤ dataSize area) (at serial : ℕ) (name : List ℕ)
     (lies : (firstFree ≤ at) × (at + entryTakes (length name) ≤ used)) where
-  short-reads : (slot : List ℕ) → Holds area (placeOf at slotField) slot → length slot ≡ slotSize → Reads area (shortValue area at) (shows (short slot))
-  unfolding shortValue shows
+  short-reads : (slot : List ℕ) → Holds area (placeOf at slotField) slot → length slot ≡ slotSize → Reads area (shortValue area at) (valueText (short slot))
+  unfolding shortValue valueText
   short-reads slot holds size =
       let to : ℕ = firstIn 0 slot 0 (length slot) in
       let most = first-high 0 slot 0 (length slot) in
@@ -99,23 +98,21 @@ module _ (area : List ℕ) (used : ℕ) (low : firstFree ≤ used) (high : used 
 
     -- short or long, by bit 16 of the serial
     pub value-reads : (value : Value) → wordAt area at serialField ≡ serial → ValueAt area at value → ValueRule at serial name value
-        → InRoom used (valueCover value) → Reads area (valueOf area at) (shows value)
-    unfolding ValueAt ValueRule valueCover isLong shows
+        → InRoom used (valueCover value) → Reads area (valueOf area at) (valueText value)
+    unfolding ValueAt ValueRule valueCover valueText
     value-reads (short slot) word holds rule within =
         let reads = short-reads slot (holds .0) (holds .1) in
-        let is-short : isLong area at ≡ false = rw word (ne-eqb (serial / longBit % 2) 1 (λ e. omega (arith, rule .0))) in
-        record { from = reads .from; to = reads .to; is = sym (value-short area at is-short) ∙ reads .is; bytes = reads .bytes }
+        record { from = reads .from; to = reads .to; is = sym (value-short area at (short-is area at serial word (rule .0))) ∙ reads .is; bytes = reads .bytes }
     value-reads (long far text) word holds rule within =
         let fits = between used far (valueTakes (length text)) low (omega arith) within in
         let reads = long-reads far text (holds .0) (holds .1) (rule .2) (rule .3) (fits .1) in
-        let is-long : isLong area at ≡ true = rw word (eq-eqb (serial / longBit % 2) 1 (rule .0)) in
-        record { from = reads .from; to = reads .to; is = sym (value-long area at is-long) ∙ reads .is; bytes = reads .bytes }
+        record { from = reads .from; to = reads .to; is = sym (value-long area at (long-is area at serial word (rule .0))) ∙ reads .is; bytes = reads .bytes }
 
 -- ---- the entry of the top node of a subtree: it can be touched, and its value and its name are read
 pub own-reads : (area : List ℕ) (used : ℕ) (prefix : List ℕ) (tree : Tree) (at serial : ℕ) (name : List ℕ) (value : Value) → Standing area used prefix tree
-    → ownOf tree ≡ entry at serial name value → (entryOk area at ≡ true) × Reads area (valueOf area at) (shows value) × Reads area (nameOf area at) name
+    → ownOf tree ≡ entry at serial name value → (entryOk area at ≡ true) × Reads area (valueOf area at) (valueText value) × Reads area (nameOf area at) name
 unfolding TreeAt TreeRule EntryAt EntryRule entryCover
-own-reads area used prefix leaf at serial name value stands is = absurd (let q : _≡_ {A = ℕ} 0 1 = cc in omega arith)
+own-reads area used prefix leaf at serial name value stands is = clash cc
 own-reads area used prefix (node place segment own left below right) at serial name value stands is =
     let rule : EntryRule (prefix ++ segment) (entry at serial name value) = rw is at (stands .rule .1) in
     let holds : EntryAt area (entry at serial name value) = rw is at (stands .bytes .1) in

@@ -9,7 +9,7 @@ use borrow.Author.Tests.{eqb-true, eqb-false}
 use Rattle.words.proofs.Laws.{bool-cases}
 use Rattle.names.specs.Names.{dot, segments}
 use Rattle.layout.specs.Layout.{childrenField, rootAt}
-use Rattle.property_area.proofs.TrieLaws.{segment-empty}
+use Rattle.trie.proofs.TrieLaws.{segment-empty}
 use Rattle.sound.specs.Tree.{Entry, bare, Tree, leaf, node}
 use Rattle.sound.specs.Sound.{Sound}
 use Rattle.sound.specs.Ways.{reached}

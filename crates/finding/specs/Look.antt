@@ -1,17 +1,17 @@
--- Looking a name up in a tree: the search of a segment among siblings, one segment below the other.
+-- Searching for a name in a tree: the search of a segment among siblings, one segment below the other.
 use Prim.Native.Nat.{ℕ, _+_}
 use mathlib.Core.Bool.{cond}
 use mathlib.Core.List.{List, [], _∷_}
-use lib.ListN.{length, take}
-use Rattle.words.specs.Words.{firstIn}
+use lib.ListN.{length}
+use Rattle.words.specs.Words.{upToZero}
 use lib.Dec.{eqb}
 use Rattle.names.specs.Names.{segmentOrder}
 use Rattle.names.specs.declared.Order.{Order}
 use Rattle.names.specs.declared.Order.the-variants.{Less, Equal, Greater}
 use Rattle.layout.specs.declared.refusal.Refusal.{Refusal}
 use Rattle.layout.specs.Refusals.{Answer, accepted, refuse}
-use Rattle.property_area.specs.declared.trie.Searched.{Searched}
-use Rattle.property_area.specs.Trie.{segmentSteps}
+use Rattle.trie.specs.declared.trie.Searched.{Searched}
+use Rattle.trie.specs.Trie.{segmentSteps}
 use Rattle.property_area.specs.Find.{Hit, hit}
 use Rattle.sound.specs.Tree.{Value, short, long, Entry, bare, entry, Tree, leaf, node}
 use Rattle.sound.specs.Ways.{Dir, toLeft, toRight, reached}
@@ -57,9 +57,9 @@ costs (segment ∷ rest) below =
     cond (eqb (length segment) 0) 0 (compares segment below + byNode (reached below (spot segment below)) 0 (λ next under. costs rest under))
 
 -- what a value shows: a short one its slot up to the first zero, a long one its text
-unfoldable pub shows : Value → List ℕ
-shows (short slot) = take (firstIn 0 slot 0 (length slot)) slot
-shows (long far text) = text
+unfoldable pub valueText : Value → List ℕ
+valueText (short slot) = upToZero slot
+valueText (long far text) = text
 
 -- the nodes that find compares over the bytes, whatever it answers
 abbrev pub searchCost : Searched → (ℕ → ℕ) → ℕ

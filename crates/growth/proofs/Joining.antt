@@ -3,6 +3,7 @@ use Prim.Native.Nat.{ℕ}
 use native.Mathlib.Omega.{arith}
 use mathlib.Core.Path.{_≡_, refl, ap, _∙_}
 use mathlib.Core.List.{List, [], _∷_, _++_}
+use Rattle.words.proofs.Laws.{clash}
 use Rattle.sound.specs.Tree.{Entry, Tree, leaf, node}
 use Rattle.sound.specs.Ways.{Dir, toLeft, toBelow, toRight, toward, reached}
 use Rattle.growth.specs.Plug.{hang, plug, fieldPlace, linkPlace}
@@ -45,7 +46,7 @@ along-placed (toRight ∷ way) segment (node at name own left below right) h = a
 
 leaf-ends : (way : List Dir) (at : ℕ) (name : List ℕ) (own : Entry) (left below right : Tree) → reached leaf way ≡ node at name own left below right → ⊥
 unfolding reached toward
-leaf-ends [] at name own left below right e = absurd (let q : _≡_ {A = ℕ} 0 1 = cc in omega arith)
+leaf-ends [] at name own left below right e = clash cc
 leaf-ends (dir ∷ way) at name own left below right e = leaf-ends way at name own left below right e
 
 pub along-reached : (way : List Dir) (tree : Tree) (at : ℕ) (name : List ℕ) (own : Entry) (left below right : Tree)

@@ -6,7 +6,8 @@ use mathlib.Core.Path.{_≡_, refl, _∙_}
 use mathlib.Core.List.{List, [], _++_}
 use lib.ListN.{length, getD}
 use Rattle.words.specs.Words.{littleAt}
-use Rattle.layout.specs.Layout.{wordSize, usedField, magicField, nodeSize, propField, childrenField, entrySize, serialField, longBit, rootAt, backupAt, backupSize, firstFree, dataSize, byteOf, placeOf, headerWord, wordAt, nodeTakes, entryTakes}
+use Rattle.layout.specs.Layout.{wordSize, usedField, magicField, nodeSize, propField, childrenField, entrySize, serialField, rootAt, backupAt, backupSize, firstFree, dataSize, byteOf, placeOf, headerWord, wordAt, nodeTakes, entryTakes}
+use Rattle.property_info.specs.Serial.{longIn}
 use Rattle.sound.specs.Tree.{Entry, entry, short, Tree, node, link, entryLink, inside, valueCover, entryCover, cover}
 use Rattle.sound.specs.Sound.{nodeWords, ValueAt, EntryAt, TreeAt, Has, ValueRule, EntryRule, TreeRule, Front, Room, Sound}
 use Rattle.sound.specs.Ways.{Dir, reached}
@@ -138,7 +139,7 @@ module _ (a : List ℕ) (used : ℕ) (tree : Tree) (way : List Dir) (at : ℕ) (
 
   pub sound-slot : (b : List ℕ) (new : ℕ) (fresh : List ℕ) → length b ≡ length a
       → ((i : ℕ) → inside (byteOf far) entrySize i ≡ 0 → inside (byteOf backupAt) backupSize i ≡ 0 → getD b i 0 ≡ getD a i 0)
-      → wordAt b far serialField ≡ new → new / longBit % 2 ≡ 0 → ValueAt b far (short fresh) → Has 0 fresh
+      → wordAt b far serialField ≡ new → longIn new ≡ 0 → ValueAt b far (short fresh) → Has 0 fresh
       → Sound b used (plug tree way (node at name (entry far new full (short fresh)) left below right))
   unfolding TreeAt EntryAt EntryRule ValueRule TreeRule entryLink entryCover valueCover
   sound-slot b new fresh same keep says plain value zero =

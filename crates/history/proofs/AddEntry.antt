@@ -6,15 +6,16 @@ use mathlib.Core.Path.{_≡_, refl, sym, _∙_}
 use mathlib.Core.List.{List, [], _∷_, _++_}
 use lib.ListN.{length}
 use borrow.Author.Tests.{ne-eqb, lt-ltb, le-ltb}
+use Rattle.words.specs.Words.{upToZero}
 use Rattle.words.specs.Stores.{run, wordStore, textStores}
 use Rattle.words.proofs.StoreLaws.{run-length}
-use Rattle.layout.specs.Layout.{wordSize, usedField, propField, entrySize, slotSize, lengthUnit, dataSize, byteOf, placeOf, headerWord, entryTakes, valueTakes}
+use Rattle.layout.specs.Layout.{wordSize, usedField, propField, entrySize, slotSize, dataSize, byteOf, placeOf, headerWord, entryTakes, valueTakes}
+use Rattle.property_info.specs.Serial.{longSerial, shortSerial}
 use Rattle.layout.proofs.Promises.{touch-yes}
-use Rattle.property_info.specs.Written.{shortStores, longSerial, longStores}
-use Rattle.builder.specs.Steps.{goes, andThen}
-use Rattle.builder.specs.Allocate.{allocate}
-use Rattle.builder.specs.Nodes.{linkTo}
-use Rattle.builder.specs.Entries.{layEntry, longEntry, newEntry, addEntry}
+use Rattle.property_info.specs.Written.{shortStores, longStores}
+use Rattle.allocation.specs.Steps.{goes, andThen, linkTo}
+use Rattle.allocation.specs.Allocate.{allocate}
+use Rattle.entries.specs.Entries.{layEntry, longEntry, newEntry, addEntry}
 use Rattle.sound.specs.Tree.{short, long, Entry, bare, entry, Tree, node, entryLink, inside, valueCover, entryCover}
 use Rattle.sound.specs.Sound.{EntryRule, TreeRule, Sound}
 use Rattle.sound.specs.Ways.{Dir, reached}
@@ -24,7 +25,6 @@ use Rattle.growth.specs.Plug.{plug}
 use Rattle.growth.proofs.Rules.{prefixAt, rule-there}
 use Rattle.finding.proofs.NodeReads.{node-touched, prop-word, own-room, entry-lies}
 use Rattle.history.specs.Lack.{entryNeeds}
-use Rattle.history.specs.History.{upToZero}
 use Rattle.history.proofs.Storing.{Changed, changed-then}
 use Rattle.history.proofs.NodeLaid.{WordSet}
 use Rattle.history.proofs.EntryLaid.{ShortLaid, short-laid, up-takes, LongLaid, long-laid}
@@ -84,11 +84,11 @@ module _ (area : List ℕ) (used : ℕ) (tree : Tree) (way : List Dir) (at : ℕ
       laid = short-laid given used full value few (omega (arith, marked .rest .size))
 
       slot-hung : Sound (run slotted (wordStore (placeOf at propField) used ∷ [])) far
-          (plug tree way (node at name (entry used (length value * lengthUnit) full (short (laid .entry .slot))) left below right))
+          (plug tree way (node at name (entry used (shortSerial (length value)) full (short (laid .entry .slot))) left below right))
       unfolding entryLink EntryRule entryCover valueCover
       slot-hung =
           entry-hung area used tree way at name left below right there sound slotted (entryTakes (length full))
-          (entry used (length value * lengthUnit) full (short (laid .entry .slot))) fits far-aligned
+          (entry used (shortSerial (length value)) full (short (laid .entry .slot))) fits far-aligned
           (word-frame given slotted usedField (λ i k. laid .rest .kept i (inside-below (byteOf used) (entryTakes (length full)) i (omega (arith, inside-high usedField wordSize i k))))
           ∙ marked .word)
           (changed-then area given slotted (inside usedField wordSize) (inside (byteOf used) (entryTakes (length full))) _ (marked .rest) (laid .rest) (λ i z. omega arith))
@@ -98,9 +98,9 @@ module _ (area : List ℕ) (used : ℕ) (tree : Tree) (way : List Dir) (at : ℕ
       short-added : EntryAdded area used tree way at name bare left below right full value (addEntry area full value at)
       unfolding Laid
       short-added =
-          added (run slotted (wordStore (placeOf at propField) used ∷ [])) (length value * lengthUnit) (short (laid .entry .slot)) refl
+          added (run slotted (wordStore (placeOf at propField) used ∷ [])) (shortSerial (length value)) (short (laid .entry .slot)) refl
           (rw (needs-short full value few) fits) (rw (rooms-short full value few) (bare-new ∙ rw (short-new, prop-place)))
-          (rw (needs-short full value few) slot-hung) (few, refl, laid .entry .shows)
+          (rw (needs-short full value few) slot-hung) (few, refl, laid .entry .valueText)
 
     -- ---- a long value behind it
     module _ (many : slotSize ≤ length value) where

@@ -6,9 +6,10 @@ use native.Mathlib.Decide.{decLt}
 use mathlib.Core.Path.{_≡_, refl, sym, ap, _∙_}
 use mathlib.Core.List.{List, [], _∷_, _++_, append-nil, append-assoc}
 use lib.ListN.{length}
+use Rattle.words.proofs.Laws.{clash}
 use Rattle.layout.specs.Layout.{dataSize, nodeTakes}
-use Rattle.builder.specs.Steps.{goes, stops, total}
-use Rattle.builder.specs.Nodes.{addPath}
+use Rattle.allocation.specs.Steps.{goes, stops, total}
+use Rattle.nodes.specs.Nodes.{addPath}
 use Rattle.sound.specs.Tree.{Entry, Tree, leaf, node}
 use Rattle.sound.specs.Sound.{Sound}
 use Rattle.sound.specs.Ways.{Dir, toBelow, reached}
@@ -173,7 +174,7 @@ path-halts (segment ∷ rest) area used tree v parent sound stood named full =
       hung = same tree;
     }
     by leaf e (no fits) on = on (λ k. omega arith)
-    by (node at name own left below right) e fits on = on (λ k. let q : node at name own left below right ≡ leaf = sym e ∙ k in absurd (let q : _≡_ {A = ℕ} 0 1 = cc in omega arith))
+    by (node at name own left below right) e fits on = on (λ k. let q : node at name own left below right ≡ leaf = sym e ∙ k in clash cc)
 
 -- ---- where it stands after some segments, there is a node, and its path is these
 pub record NodeThere (tree : Tree) (at : ℕ) (segs : List (List ℕ)) : Type 0 where

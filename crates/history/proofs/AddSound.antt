@@ -6,15 +6,16 @@ use mathlib.Core.Path.{_≡_, refl, sym, ap, _∙_}
 use mathlib.Core.Logic.{_≢_}
 use mathlib.Core.List.{List, [], _++_}
 use lib.ListN.{length}
-use Rattle.finding.specs.Look.{shows}
+use Rattle.words.specs.Words.{upToZero}
+use Rattle.finding.specs.Look.{valueText}
 use Rattle.names.specs.Names.{segments}
 use Rattle.layout.specs.declared.refusal.Refusal.{Refusal}
 use Rattle.layout.specs.declared.refusal.Verdict.{Verdict}
 use Rattle.layout.specs.Layout.{dataSize, rootAt, entryTakes}
 use Rattle.builder.proofs.Used.{total-append}
-use Rattle.builder.specs.Steps.{Step, goes, stops, stopBy, andThen, withRooms, total}
-use Rattle.builder.specs.Nodes.{addPath}
-use Rattle.builder.specs.Entries.{addEntry}
+use Rattle.allocation.specs.Steps.{Step, goes, stops, stopBy, andThen, withRooms, total}
+use Rattle.nodes.specs.Nodes.{addPath}
+use Rattle.entries.specs.Entries.{addEntry}
 use Rattle.builder.specs.Add.{nameVerdict, addSteps}
 use Rattle.sound.specs.Tree.{Value, Entry, bare, entry, Tree, node}
 use Rattle.sound.specs.Sound.{Sound}
@@ -22,7 +23,6 @@ use Rattle.sound.specs.Ways.{reached}
 use Rattle.growth.specs.Plug.{plug}
 use Rattle.growth.proofs.Rules.{prefixAt}
 use Rattle.finding.proofs.Spelling.{one-name}
-use Rattle.history.specs.History.{upToZero}
 use Rattle.history.specs.Lack.{seek, entryOf, missing, entryRooms, entryNeeds, ownLacks, lacks, fullNumber}
 use Rattle.history.proofs.Leading.{names-spelled, finds-own, finds-new, finds-others}
 use Rattle.history.proofs.Stood.{atRoot, above}
@@ -48,7 +48,7 @@ pub data AddDone (area : List ℕ) (used : ℕ) (tree : Tree) (name value : List
       → step ≡ goes at b rooms → total rooms ≡ lacks tree name value → entryOf tree name ≡ entry at serial name v → Sound b grown now → Alike tree now → AddDone area used tree name value step
   -- it has one now, which shows the value
   adds : (at : ℕ) (b rooms : List ℕ) (grown : ℕ) (now : Tree) (serial : ℕ) (v : Value) → nameVerdict name ≡ Verdict.Accepted → used + lacks tree name value ≤ dataSize area
-      → step ≡ goes at b rooms → total rooms ≡ lacks tree name value → entryOf tree name ≡ bare → Sound b grown now → entryOf now name ≡ entry at serial name v → shows v ≡ upToZero value
+      → step ≡ goes at b rooms → total rooms ≡ lacks tree name value → entryOf tree name ≡ bare → Sound b grown now → entryOf now name ≡ entry at serial name v → valueText v ≡ upToZero value
       → ((other : List ℕ) → other ≢ name → entryOf now other ≡ entryOf tree other) → AddDone area used tree name value step
 
 lacks-bare : (tree : Tree) (name value : List ℕ) → entryOf tree name ≡ bare → lacks tree name value ≡ missing (segments name) tree + entryNeeds name value

@@ -5,20 +5,20 @@ use mathlib.Core.Path.{_≡_}
 use mathlib.Core.List.{List, [], _∷_}
 use lib.ListN.{length}
 use borrow.Author.Tests.{lt-ltb, le-ltb}
-use Rattle.finding.specs.Look.{shows}
-use Rattle.layout.specs.Layout.{slotSize, lengthUnit, dataSize, entryTakes, valueTakes}
-use Rattle.property_info.specs.Written.{longSerial}
-use Rattle.builder.specs.Steps.{Step, goes, stops}
+use Rattle.words.specs.Words.{upToZero}
+use Rattle.finding.specs.Look.{valueText}
+use Rattle.layout.specs.Layout.{slotSize, dataSize, entryTakes, valueTakes}
+use Rattle.property_info.specs.Serial.{longSerial, shortSerial}
+use Rattle.allocation.specs.Steps.{Step, goes, stops}
 use Rattle.sound.specs.Tree.{Value, short, long, Entry, bare, entry, Tree, node}
 use Rattle.sound.specs.Sound.{Sound}
 use Rattle.sound.specs.Ways.{Dir}
 use Rattle.growth.specs.Plug.{plug}
 use Rattle.history.specs.Lack.{entryNeeds, entryRooms, fullNumber}
-use Rattle.history.specs.History.{upToZero}
 
 -- the serial and value of an entry just laid: it shows the value up to its first zero
 unfoldable pub Laid : ℕ → List ℕ → List ℕ → ℕ → Value → Type 0
-Laid at name value serial (short slot) = (length value < slotSize) × (serial ≡ length value * lengthUnit) × (upToZero slot ≡ upToZero value)
+Laid at name value serial (short slot) = (length value < slotSize) × (serial ≡ shortSerial (length value)) × (upToZero slot ≡ upToZero value)
 Laid at name value serial (long far text) = (slotSize ≤ length value) × (serial ≡ longSerial) × (far ≡ at + entryTakes (length name)) × (text ≡ upToZero value)
 
 module _ (area : List ℕ) (used : ℕ) (tree : Tree) (way : List Dir) (at : ℕ) (name : List ℕ) (own : Entry) (left below right : Tree) (full value : List ℕ) where
@@ -58,7 +58,7 @@ module _ (name value : List ℕ) where
   needs-least = omega arith
 
 -- ---- an entry just laid shows its value
-pub laid-shows : (at : ℕ) (name value : List ℕ) (serial : ℕ) (v : Value) → Laid at name value serial v → shows v ≡ upToZero value
-unfolding Laid shows
+pub laid-shows : (at : ℕ) (name value : List ℕ) (serial : ℕ) (v : Value) → Laid at name value serial v → valueText v ≡ upToZero value
+unfolding Laid valueText
 laid-shows at name value serial (short slot) h = h .2
 laid-shows at name value serial (long far text) h = h .3

@@ -7,7 +7,7 @@ use mathlib.Core.List.{List, [], _∷_, _++_}
 use lib.ListN.{length, getD}
 use Rattle.words.specs.Stores.{run, wordStore}
 use Rattle.layout.specs.Layout.{wordSize, wordMax, usedField, magicField, propField, childrenField, rootAt, firstFree, dataSize, byteOf, placeOf, headerWord, nodeTakes}
-use Rattle.property_area.proofs.HeaderLaws.{header-min, header-max}
+use Rattle.trie.proofs.HeaderLaws.{header-min, header-max}
 use Rattle.sound.specs.Tree.{Entry, bare, Tree, node, entryLink, inside, entryCover, cover}
 use Rattle.sound.specs.Sound.{EntryAt, EntryRule, Front, Sound}
 use Rattle.sound.specs.Ways.{Dir, reached}

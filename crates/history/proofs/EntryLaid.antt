@@ -6,19 +6,19 @@ use mathlib.Core.Path.{_≡_, ap, refl, sym, _∙_}
 use mathlib.Core.List.{List, [], _∷_, _++_}
 use lib.ListN.{length, getD, take, drop, replicate, length-take, length-drop}
 use lib.Seq.{getD-take, getD-drop}
-use Rattle.words.specs.Words.{littleBytes, put}
+use Rattle.words.specs.Words.{littleBytes, put, upToZero}
 use Rattle.words.specs.Stores.{run, textStores}
 use Rattle.words.proofs.Laws.{put-length}
 use Rattle.words.proofs.StoreLaws.{run-append, run-length}
 use Rattle.words.proofs.Promises.{little-put-before, little-put-same}
 use Rattle.layout.specs.Layout.{wordSize, wordMax, byteOf, placeOf, wordAt, entryTakes, valueTakes}
-use Rattle.layout.specs.Layout.{entrySize, serialField, slotField, slotSize, messageField, messageSize, messageLength, longOffsetField, longBit, lengthUnit}
-use Rattle.property_info.specs.Written.{shortStores, message, longSerial, longStores}
+use Rattle.property_info.specs.Serial.{longSerial, longIn, shortSerial}
+use Rattle.layout.specs.Layout.{entrySize, serialField, slotField, slotSize, messageField, messageSize, messageLength, longOffsetField}
+use Rattle.property_info.specs.Written.{shortStores, message, longStores}
 use Rattle.sound.specs.Tree.{short, long, entry, inside}
 use Rattle.sound.specs.Sound.{HoldsText, ValueAt, EntryAt, ValueRule}
 use Rattle.sound.proofs.Holding.{text-length, text-zero}
-use Rattle.history.specs.History.{upToZero}
-use Rattle.history.proofs.Storing.{Changed, changed-then, Within, within-store, within-word, within-append, within-text, run-changed}
+use Rattle.history.proofs.Storing.{Changed, changed-then, StoresIn, within-store, within-word, within-append, within-text, run-changed}
 use Rattle.history.proofs.Storing.{holds-above, text-stored, word-before-text, text-before-text}
 use Rattle.history.proofs.UpToZero.{up-most, up-whole, up-text, slot-shows}
 
@@ -27,7 +27,7 @@ pub record ShowsShort (area : List ℕ) (at serial : ℕ) (name value : List ℕ
   pub slot : List ℕ
   pub bytes : EntryAt area (entry at serial name (short slot))
   pub rule : ValueRule at serial name (short slot)
-  pub shows : upToZero slot ≡ upToZero value
+  pub valueText : upToZero slot ≡ upToZero value
 
 module _ (area : List ℕ) (at serial : ℕ) (name value : List ℕ) (fits : byteOf at + entrySize ≤ length area) (few : length value < slotSize) where
   abbrev slot : List ℕ
@@ -39,23 +39,23 @@ module _ (area : List ℕ) (at serial : ℕ) (name value : List ℕ) (fits : byt
   slot-byte : (k : ℕ) → k < slotSize → getD slot k 0 ≡ getD area (placeOf at slotField + k) 0
   slot-byte k l = getD-take slotSize (drop (placeOf at slotField) area) k 0 l ∙ getD-drop (placeOf at slotField) area k 0
 
-  pub short-stands : wordAt area at serialField ≡ serial → serial / longBit % 2 ≡ 0 → HoldsText area (placeOf at slotField) value
+  pub short-stands : wordAt area at serialField ≡ serial → longIn serial ≡ 0 → HoldsText area (placeOf at slotField) value
       → HoldsText area (placeOf at entrySize) name → ShowsShort area at serial name value
   unfolding EntryAt ValueAt ValueRule
   short-stands word even held named = record {
     slot = slot;
     bytes = (word, named, ((λ k l. sym (slot-byte k (omega (arith, slot-length)))), slot-length));
     rule = (even, (length value, omega (arith, slot-length), slot-byte (length value) few ∙ text-zero area (placeOf at slotField) value held));
-    shows = slot-shows slot value (omega (arith, slot-length)) (λ k l. rw zero-add (slot-byte k (omega (arith, text-length value)) ∙ held k l));
+    valueText = slot-shows slot value (omega (arith, slot-length)) (λ k l. rw zero-add (slot-byte k (omega (arith, text-length value)) ∙ held k l));
   }
 
 pub record ShortLaid (area : List ℕ) (at : ℕ) (name value b : List ℕ) : Type 0 where
-  pub entry : ShowsShort b at (length value * lengthUnit) name value
+  pub entry : ShowsShort b at (shortSerial (length value)) name value
   pub rest : Changed area b (inside (byteOf at) (entryTakes (length name)))
 
 module _ (area : List ℕ) (at : ℕ) (name value : List ℕ) (few : length value < slotSize) (fits : byteOf at + entryTakes (length name) ≤ length area) where
   abbrev numbered : List ℕ
-  numbered = put area (placeOf at serialField) (littleBytes wordSize (length value * lengthUnit))
+  numbered = put area (placeOf at serialField) (littleBytes wordSize (shortSerial (length value)))
 
   abbrev valued : List ℕ
   valued = run numbered (textStores (placeOf at slotField) value)
@@ -67,16 +67,16 @@ module _ (area : List ℕ) (at : ℕ) (name value : List ℕ) (few : length valu
   unfolding run shortStores
   short-run = run-append numbered (textStores (placeOf at slotField) value) (textStores (placeOf at entrySize) name)
 
-  short-within : Within (byteOf at) (entryTakes (length name)) (shortStores at value ++ textStores (placeOf at entrySize) name)
+  short-within : StoresIn (byteOf at) (entryTakes (length name)) (shortStores at value ++ textStores (placeOf at entrySize) name)
   unfolding shortStores
   short-within =
-      within-word _ _ (placeOf at serialField) (length value * lengthUnit) _ (omega arith) (omega arith)
+      within-word _ _ (placeOf at serialField) (shortSerial (length value)) _ (omega arith) (omega arith)
       (within-append (byteOf at) (entryTakes (length name)) (textStores (placeOf at slotField) value) (textStores (placeOf at entrySize) name)
       (within-text _ _ (placeOf at slotField) value (omega arith) (omega arith))
       (within-text _ _ (placeOf at entrySize) name (omega arith) (omega arith)))
 
   valued-length : length valued ≡ length area
-  valued-length = run-length numbered (textStores (placeOf at slotField) value) ∙ put-length area (placeOf at serialField) (littleBytes wordSize (length value * lengthUnit))
+  valued-length = run-length numbered (textStores (placeOf at slotField) value) ∙ put-length area (placeOf at serialField) (littleBytes wordSize (shortSerial (length value)))
 
   value-held : HoldsText named (placeOf at slotField) value
   value-held =
@@ -85,11 +85,11 @@ module _ (area : List ℕ) (at : ℕ) (name value : List ℕ) (few : length valu
 
   pub short-laid : ShortLaid area at name value (run area (shortStores at value ++ textStores (placeOf at entrySize) name))
   short-laid = record {
-    entry = rw short-run (short-stands named at (length value * lengthUnit) name value
+    entry = rw short-run (short-stands named at (shortSerial (length value)) name value
         (omega (arith, valued-length, run-length valued (textStores (placeOf at entrySize) name))) few
         (word-before-text valued (placeOf at entrySize) name (placeOf at serialField) (omega arith)
         ∙ word-before-text numbered (placeOf at slotField) value (placeOf at serialField) (omega arith)
-        ∙ little-put-same wordSize area (placeOf at serialField) (length value * lengthUnit) (omega arith) (omega arith))
+        ∙ little-put-same wordSize area (placeOf at serialField) (shortSerial (length value)) (omega arith) (omega arith))
         (omega arith) value-held (text-stored valued (placeOf at entrySize) name (omega (arith, valued-length))));
     rest = run-changed area (byteOf at) (entryTakes (length name)) (shortStores at value ++ textStores (placeOf at entrySize) name) short-within;
   }
@@ -127,7 +127,7 @@ module _ (area : List ℕ) (at far : ℕ) (name value : List ℕ) (behind : at +
   abbrev laid : List ℕ
   laid = run stored (longStores at (far - at) ++ textStores (placeOf at entrySize) name)
 
-  long-within : Within (byteOf at) (entryTakes (length name)) (longStores at (far - at) ++ textStores (placeOf at entrySize) name)
+  long-within : StoresIn (byteOf at) (entryTakes (length name)) (longStores at (far - at) ++ textStores (placeOf at entrySize) name)
   unfolding longStores
   long-within =
       within-word _ _ (placeOf at serialField) longSerial _ (omega arith) (omega arith)

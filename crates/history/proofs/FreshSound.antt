@@ -11,7 +11,7 @@ use Rattle.words.specs.Stores.{run}
 use Rattle.words.proofs.Laws.{put-length, put-before, put-after, put-same, length-little}
 use Rattle.words.proofs.Promises.{little-put-before, little-put-same, same-self}
 use Rattle.layout.specs.Layout.{wordSize, headerSize, usedField, magicField, versionField, magic, version, areaMin, areaMax, formatMin, rootAt, firstFree, placeOf, headerWord, wordAt}
-use Rattle.property_area.specs.Header.{headerOk}
+use Rattle.trie.specs.Header.{headerOk}
 use Rattle.builder.specs.Fresh.{fresh}
 use Rattle.sound.specs.Tree.{leaf, link, cover}
 use Rattle.sound.specs.Sound.{TreeAt, TreeRule, Sound}

@@ -4,6 +4,7 @@ use native.Mathlib.Omega.{arith}
 use mathlib.Core.Path.{_≡_, refl, sym, ap, _∙_}
 use mathlib.Core.Logic.{_≢_}
 use mathlib.Core.List.{List, [], _∷_, _++_}
+use Rattle.words.proofs.Laws.{clash}
 use Rattle.names.specs.Names.{segments, segmentOrder}
 use Rattle.names.specs.declared.Order.{Order}
 use Rattle.names.specs.declared.Order.the-variants.{Less, Equal, Greater}
@@ -64,7 +65,7 @@ module _ (at serial : ℕ) (name : List ℕ) (value : Value) where
   unfolding seek
   leads-from leaf segment rest above e =
       let none : bare ≡ entry at serial name value = unfold spot reached in e in
-      absurd (let q : _≡_ {A = ℕ} 0 1 = cc in omega arith)
+      clash cc
   leads-from (node place full next l b r) segment rest above e =
       by (segmentOrder segment full) refl rest (sym (seek-node segment rest above place full next l b r) ∙ e)
       (leads-from l segment rest above) (leads-from r segment rest above) (λ first more. leads-from b first more next)
@@ -83,7 +84,7 @@ module _ (at serial : ℕ) (name : List ℕ) (value : Value) where
 
   pub seek-leads : (segs : List (List ℕ)) (tree : Tree) → seek segs bare tree ≡ entry at serial name value → Leads tree segs (entry at serial name value)
   unfolding seek
-  seek-leads [] tree e = absurd (let q : _≡_ {A = ℕ} 0 1 = cc in omega arith)
+  seek-leads [] tree e = clash cc
   seek-leads (segment ∷ rest) tree e = leads-from tree segment rest bare e
 
   pub seek-name : (segs : List (List ℕ)) (tree : Tree) → TreeRule [] tree → seek segs bare tree ≡ entry at serial name value → segments name ≡ segs

@@ -20,9 +20,11 @@ pub mod AddEntry
 pub mod UpdateSound
 pub mod Naming
 pub mod Showing
+pub mod Undamaged
 pub mod AddSound
 pub mod Next
 pub mod Entries
 pub mod Run
 pub mod OneCall
+pub mod Telling
 pub mod Promises

@@ -2,14 +2,14 @@
 use Prim.Native.Nat.{ℕ, zero, suc}
 use native.Mathlib.Omega.{arith}
 use mathlib.Core.Path.{_≡_}
-use mathlib.Core.Logic.{_≢_, _⊎_, inl, inr}
+use mathlib.Core.Logic.{_≢_}
 use mathlib.Core.Bool.{true, false}
 use mathlib.Core.List.{List, [], _∷_}
 use lib.Dec.{eqb}
 use lib.ListN.{length}
 use borrow.Author.Tests.{ltb-true, ltb-false, eqb-false}
 use Rattle.words.specs.Words.{firstIn, hasZero}
-use Rattle.words.proofs.Laws.{bool-cases}
+use Rattle.words.proofs.Laws.{bool-cases, clash}
 use Rattle.words.proofs.Promises.{first-none, first-there}
 use Rattle.names.specs.Names.{dot, onFirst, segments}
 use Rattle.layout.specs.declared.refusal.Refusal.{Refusal}
@@ -24,22 +24,23 @@ module _ (name : List ℕ) where
   unfolding nameVerdict
   accepted-tests e =
       bool-cases (hasZero name)
-      (λ t. let k : Verdict.Refused Refusal.ZeroByte ≡ Verdict.Accepted = rw t at e in absurd (let q : _≡_ {A = ℕ} 0 1 = cc in omega arith))
+      (λ t. let k : Verdict.Refused Refusal.ZeroByte ≡ Verdict.Accepted = rw t at e in clash cc)
       (λ t. bool-cases (anyEmpty (segments name))
-      (λ u. let k : Verdict.Refused Refusal.EmptySegment ≡ Verdict.Accepted = rw (t, u) at e in absurd (let q : _≡_ {A = ℕ} 0 1 = cc in omega arith))
+      (λ u. let k : Verdict.Refused Refusal.EmptySegment ≡ Verdict.Accepted = rw (t, u) at e in clash cc)
       (λ u. (t, u)))
 
   pub none-empty : nameVerdict name ≡ Verdict.Accepted → anyEmpty (segments name) ≡ false
   none-empty e = accepted-tests e .1
 
-  pub verdict-refused : (why : Refusal) → nameVerdict name ≡ Verdict.Refused why → (why ≡ Refusal.ZeroByte) ⊎ (why ≡ Refusal.EmptySegment)
+  -- no test of a name tells of damage or of a bad header
+  pub verdict-refused : (why : Refusal) → nameVerdict name ≡ Verdict.Refused why → (why ≢ Refusal.Damaged) × (why ≢ Refusal.BadHeader)
   unfolding nameVerdict
   verdict-refused why e =
       bool-cases (hasZero name)
-      (λ t. let k : Verdict.Refused Refusal.ZeroByte ≡ Verdict.Refused why = rw t at e in inl cc)
+      (λ t. let k : Verdict.Refused Refusal.ZeroByte ≡ Verdict.Refused why = rw t at e in ((λ d. clash cc), (λ h. clash cc)))
       (λ t. bool-cases (anyEmpty (segments name))
-      (λ u. let k : Verdict.Refused Refusal.EmptySegment ≡ Verdict.Refused why = rw (t, u) at e in inr cc)
-      (λ u. let k : Verdict.Accepted ≡ Verdict.Refused why = rw (t, u) at e in absurd (let q : _≡_ {A = ℕ} 0 1 = cc in omega arith)))
+      (λ u. let k : Verdict.Refused Refusal.EmptySegment ≡ Verdict.Refused why = rw (t, u) at e in ((λ d. clash cc), (λ h. clash cc)))
+      (λ u. let k : Verdict.Accepted ≡ Verdict.Refused why = rw (t, u) at e in clash cc))
 
   -- the scan for a zero
   zero-none : hasZero name ≡ false → Without 0 name
@@ -56,15 +57,15 @@ module _ (name : List ℕ) where
 -- ---- there is a segment at least
 pub segments-some : (name : List ℕ) → segments name ≢ []
 unfolding segments
-segments-some [] e = let q : _≡_ {A = ℕ} 0 1 = cc in omega arith
+segments-some [] e = clash cc
 segments-some (x ∷ xs) e =
     bool-cases (eqb x dot)
-    (λ t. let k : [] ∷ segments xs ≡ [] = rw t at e in let q : _≡_ {A = ℕ} 0 1 = cc in omega arith)
+    (λ t. let k : [] ∷ segments xs ≡ [] = rw t at e in clash cc)
     (λ t. by (segments xs) (rw t at e))
   where
     by : (segs : List (List ℕ)) → onFirst x segs ≢ []
-    by [] k = let q : _≡_ {A = ℕ} 0 1 = cc in omega arith
-    by (segment ∷ rest) k = let q : _≡_ {A = ℕ} 0 1 = cc in omega arith
+    by [] k = clash cc
+    by (segment ∷ rest) k = clash cc
 
 -- ---- segments without zeros and dots: those of a name without zeros
 abbrev Clean : List (List ℕ) → Type 0
@@ -100,7 +101,7 @@ unfolding anyEmpty
 clean-named [] clean full = tt
 clean-named (segment ∷ rest) clean full =
     bool-cases (eqb (length segment) 0)
-    (λ t. let k : true ≡ false = rw t at full in absurd (let q : _≡_ {A = ℕ} 0 1 = cc in omega arith))
+    (λ t. let k : true ≡ false = rw t at full in clash cc)
     (λ t. (
       record { some = omega (arith, eqb-false (length segment) 0 t); whole = clean .0; plain = clean .1 },
       clean-named rest (clean .2) (rw t at full),

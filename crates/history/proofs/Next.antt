@@ -2,34 +2,34 @@
 use Prim.Native.Nat.{ℕ, _+_}
 use native.Mathlib.Omega.{arith}
 use mathlib.Core.Path.{_≡_, refl, sym, ap, subst, _∙_}
-use mathlib.Core.Logic.{_≢_, _⊎_, inl, inr}
+use mathlib.Core.Logic.{_≢_}
 use mathlib.Core.Bool.{Bool, false, cond, _&&_, false≢true}
 use mathlib.Core.List.{List, [], _∷_}
 use mathlib.Core.Option.{Option, none, some}
 use lib.ListN.{length}
 use lib.Dec.{eqb}
-use Rattle.finding.specs.Look.{shows}
-use Rattle.words.specs.Words.{sameBytes}
-use Rattle.words.proofs.Laws.{bool-cases}
+use Rattle.finding.specs.Look.{valueText}
+use Rattle.words.specs.Words.{sameBytes, upToZero}
+use Rattle.words.proofs.Laws.{bool-cases, clash}
 use Rattle.words.proofs.Promises.{same-eq, same-self}
 use Rattle.names.specs.Names.{segments}
 use Rattle.layout.specs.declared.refusal.Refusal.{Refusal}
-use Rattle.layout.specs.declared.refusal.Verdict.{Verdict}
 use Rattle.layout.specs.Layout.{usedField, headerWord}
-use Rattle.layout.specs.Refusals.{numberOf, noRefusal, Outcome, leaves}
+use Rattle.layout.specs.Refusals.{numberOf, noRefusal, Outcome, leaves, numberIn, bytesIn}
 use Rattle.property_info.specs.Serial.{updatedSerial}
 use Rattle.counters.specs.Distance.{serialAfter}
-use Rattle.builder.specs.Steps.{Step, goes, stops, outcome, total}
-use Rattle.builder.specs.Add.{nameVerdict, addSteps}
+use Rattle.allocation.specs.Steps.{Step, goes, stops, outcome, total}
+use Rattle.builder.specs.Add.{addSteps}
 use Rattle.builder.proofs.Used.{Moves, Moved, used-moves}
 use Rattle.updates.specs.Update.{updateSteps}
 use Rattle.sound.specs.Tree.{Value, short, Entry, bare, entry, Tree, node}
 use Rattle.sound.specs.Sound.{Sound}
 use Rattle.growth.specs.Plug.{plug}
 use Rattle.finding.proofs.Promises.{find-refusals}
-use Rattle.history.specs.History.{Op, add, update, call, numberIn, bytesIn, upToZero, opName, hear, heeded, sizeIn, roomsIn, opRooms}
+use Rattle.history.specs.History.{Op, add, update, call, opName, hear, heeded, sizeIn, roomsIn, opRooms}
 use Rattle.history.specs.Lack.{seek, entryOf, fullNumber}
 use Rattle.history.proofs.Rooms.{full-number}
+use Rattle.history.proofs.Undamaged.{Undamaged, Mild, undamaged, not-accepted, room-mild, found-mild}
 use Rattle.history.proofs.Leading.{finds-own, finds-new, finds-others}
 use Rattle.history.proofs.Naming.{verdict-refused}
 use Rattle.history.proofs.AddSound.{AddDone, badName, noRoom, stays, adds, add-sound}
@@ -40,7 +40,7 @@ abbrev pub Matches : Entry → Option (List ℕ) → Type 0
 Matches bare none = Unit {0}
 Matches bare (some value) = ⊥
 Matches (entry at serial full v) none = ⊥
-Matches (entry at serial full v) (some value) = shows v ≡ value
+Matches (entry at serial full v) (some value) = valueText v ≡ value
 
 -- an entry stays where it is, and its serial is that after some updates
 pub record Lasts (before now : Entry) (sizes : List ℕ) : Type 0 where
@@ -49,10 +49,6 @@ pub record Lasts (before now : Entry) (sizes : List ℕ) : Type 0 where
 lasts-same : (before now : Entry) → now ≡ before → Lasts before now []
 unfolding serialAfter
 lasts-same before now e = record { lasts = λ at serial name v h. (v, e ∙ h) }
-
--- neither damage nor a bad header
-abbrev pub Undamaged : ℕ → Type 0
-Undamaged number = (number ≢ numberOf Refusal.Damaged) × (number ≢ numberOf Refusal.BadHeader)
 
 -- what a call leaves of a sound area
 pub record Next (area : List ℕ) (used : ℕ) (tree : Tree) (op : Op) : Type 0 where
@@ -64,31 +60,18 @@ pub record Next (area : List ℕ) (used : ℕ) (tree : Tree) (op : Op) : Type 0 
   pub tells : (name : List ℕ) (before : Option (List ℕ)) → Matches (entryOf tree name) before → Matches (entryOf now name) (cond (heeded area name op) (hear op before) before)
   pub lasts : (name : List ℕ) → Lasts (entryOf tree name) (entryOf now name) (cond (heeded area name op) (sizeIn op) [])
 
--- a refusal is not 0
-refusal-some : (why : Refusal) → eqb (numberOf why) noRefusal ≡ false
-refusal-some Refusal.ZeroByte = refl
-refusal-some Refusal.EmptySegment = refl
-refusal-some Refusal.Missing = refl
-refusal-some Refusal.NoRoom = refl
-refusal-some Refusal.Damaged = refl
-refusal-some Refusal.TooLong = refl
-refusal-some Refusal.LongEntry = refl
-refusal-some Refusal.BadHeader = refl
-refusal-some Refusal.TooLarge = refl
-refusal-some Refusal.ShortBuffer = refl
-
 -- ---- a call that is refused, or changes no name's entry
 module _ (area : List ℕ) (used : ℕ) (tree : Tree) (op : Op) (number : ℕ) (b : List ℕ) (is : call area op ≡ leaves number b) (grown : ℕ) (now : Tree)
-    (sound : Sound b grown now) (mark : grown ≡ used + total (opRooms area op)) (whole : Undamaged number) (same : (name : List ℕ) → entryOf now name ≡ entryOf tree name) where
-  next-refused : eqb number noRefusal ≡ false → Next area used tree op
-  next-refused refused =
-      let unheeded : (name : List ℕ) → heeded area name op ≡ false = λ name. ap (λ (o : Outcome). eqb (numberIn o) noRefusal && sameBytes (opName op) name) is ∙ ap (λ (t : Bool). t && sameBytes (opName op) name) refused in
+    (sound : Sound b grown now) (mark : grown ≡ used + total (opRooms area op)) (mild : Mild number) (same : (name : List ℕ) → entryOf now name ≡ entryOf tree name) where
+  next-refused : Next area used tree op
+  next-refused =
+      let unheeded : (name : List ℕ) → heeded area name op ≡ false = λ name. ap (λ (o : Outcome). eqb (numberIn o) noRefusal && sameBytes (opName op) name) is ∙ ap (λ (t : Bool). t && sameBytes (opName op) name) (not-accepted number mild) in
       record {
         grown = grown;
         now = now;
         sound = rw is sound;
         mark = mark;
-        whole = rw is whole;
+        whole = rw is (undamaged number mild);
         tells = λ name before m. rw (unheeded name, same name) m;
         lasts = λ name. rw (unheeded name) (lasts-same (entryOf tree name) (entryOf now name) (same name));
       }
@@ -140,33 +123,23 @@ module _ (area : List ℕ) (used : ℕ) (tree : Tree) (sound : Sound area used t
   is-of step e = ap outcome e
 
   hears-kept : (e : Entry) (at serial : ℕ) (v : Value) (before : Option (List ℕ)) → e ≡ entry at serial name v → Matches e before → Matches e (hear (add name value) before)
-  hears-kept bare at serial v before h m = absurd (let z : _≡_ {A = ℕ} 0 1 = cc in omega arith)
+  hears-kept bare at serial v before h m = clash cc
   hears-kept (entry far s full w) at serial v none h m = absurd m
   hears-kept (entry far s full w) at serial v (some x) h m = m
 
-  hears-new : (e f : Entry) (at serial : ℕ) (v : Value) (before : Option (List ℕ)) → e ≡ bare → f ≡ entry at serial name v → shows v ≡ upToZero value → Matches e before
+  hears-new : (e f : Entry) (at serial : ℕ) (v : Value) (before : Option (List ℕ)) → e ≡ bare → f ≡ entry at serial name v → valueText v ≡ upToZero value → Matches e before
       → Matches f (hear (add name value) before)
   hears-new bare f at serial v none h k s m = rw k s
   hears-new bare f at serial v (some x) h k s m = absurd m
-  hears-new (entry far q full w) f at serial v before h k s m = absurd (let z : _≡_ {A = ℕ} 0 1 = cc in omega arith)
-
-  room-numbers : (number : ℕ) → (number ≡ numberOf Refusal.NoRoom) ⊎ (number ≡ numberOf Refusal.TooLarge) → (eqb number noRefusal ≡ false) × Undamaged number
-  room-numbers number (inl e) = rw e (refl, ((λ z. omega (arith, z)), (λ z. omega (arith, z))))
-  room-numbers number (inr e) = rw e (refl, ((λ z. omega (arith, z)), (λ z. omega (arith, z))))
-
-  bad-name : (why : Refusal) → nameVerdict name ≡ Verdict.Refused why → Undamaged (numberOf why)
-  bad-name why e = by (verdict-refused name why e)
-    where
-      by : (why ≡ Refusal.ZeroByte) ⊎ (why ≡ Refusal.EmptySegment) → Undamaged (numberOf why)
-      by (inl q) = rw q ((λ z. omega (arith, z)), (λ z. omega (arith, z)))
-      by (inr q) = rw q ((λ z. omega (arith, z)), (λ z. omega (arith, z)))
+  hears-new (entry far q full w) f at serial v before h k s m = clash cc
 
   by-add : AddDone area used tree name value (addSteps area name value) → Next area used tree (add name value)
   by-add (badName why e is) =
-      next-refused area used tree (add name value) (numberOf why) area (is-of _ is) used tree sound (marked _ is area used tree refl sound) (bad-name why e) (λ n. refl) (refusal-some why)
+      let v = verdict-refused name why e in
+      next-refused area used tree (add name value) (numberOf why) area (is-of _ is) used tree sound (marked _ is area used tree refl sound) (why, refl, v .0, v .1) (λ n. refl)
   by-add (noRoom wanted b rooms grown now e over within is S same) =
-      let w = room-numbers (fullNumber wanted) (full-number wanted) in
-      next-refused area used tree (add name value) (fullNumber wanted) b (is-of _ is) grown now S (marked _ is b grown now refl S) (w .1) (λ n. same (segments n) bare) (w .0)
+      next-refused area used tree (add name value) (fullNumber wanted) b (is-of _ is) grown now S (marked _ is b grown now refl S)
+      (room-mild (fullNumber wanted) (full-number wanted)) (λ n. same (segments n) bare)
   by-add (stays at b rooms grown now serial v e fits is sum has S same) =
       next-accepted area used tree (add name value) b (is-of _ is) grown now S (marked _ is b grown now refl S) (λ other d. same (segments other) bare)
       (λ before m. subst (λ (x : Entry). Matches x (hear (add name value) before)) (sym (same (segments name) bare)) (hears-kept (entryOf tree name) at serial v before has m))
@@ -174,7 +147,7 @@ module _ (area : List ℕ) (used : ℕ) (tree : Tree) (sound : Sound area used t
   by-add (adds at b rooms grown now serial v e fits is sum has S new shown others) =
       next-accepted area used tree (add name value) b (is-of _ is) grown now S (marked _ is b grown now refl S) others
       (λ before m. hears-new (entryOf tree name) (entryOf now name) at serial v before has new shown m)
-      (record { lasts = λ far s full w h. absurd (let q : bare ≡ entry far s full w = sym has ∙ h in let z : _≡_ {A = ℕ} 0 1 = cc in omega arith) })
+      (record { lasts = λ far s full w h. absurd (let q : bare ≡ entry far s full w = sym has ∙ h in clash cc) })
 
   pub next-add : Next area used tree (add name value)
   next-add = by-add (add-sound area used tree sound name value)
@@ -184,16 +157,12 @@ module _ (area : List ℕ) (used : ℕ) (tree : Tree) (sound : Sound area used t
   idle : used ≡ used + total (opRooms area (update name value))
   idle = omega arith
 
-  quiet : (number : ℕ) → updateSteps area name value ≡ leaves number area → eqb number noRefusal ≡ false → Undamaged number → Next area used tree (update name value)
-  quiet number is refused whole = next-refused area used tree (update name value) number area is used tree sound idle whole (λ n. refl) refused
-
-  found-numbers : (number : ℕ) → (number ≡ numberOf Refusal.Missing) ⊎ (number ≡ numberOf Refusal.EmptySegment) → (eqb number noRefusal ≡ false) × Undamaged number
-  found-numbers number (inl e) = rw e (refl, ((λ z. omega (arith, z)), (λ z. omega (arith, z))))
-  found-numbers number (inr e) = rw e (refl, ((λ z. omega (arith, z)), (λ z. omega (arith, z))))
+  quiet : (number : ℕ) → updateSteps area name value ≡ leaves number area → Mild number → Next area used tree (update name value)
+  quiet number is mild = next-refused area used tree (update name value) number area is used tree sound idle mild (λ n. refl)
 
   hears-update : (e : Entry) (at serial : ℕ) (fresh : List ℕ) (before : Option (List ℕ)) → e ≡ entry at serial name (short fresh) → upToZero fresh ≡ upToZero value
       → Matches e (hear (update name value) before)
-  unfolding shows
+  unfolding valueText
   hears-update e at serial fresh before h s = rw h s
 
   module _ (far serial : ℕ) (slot b fresh : List ℕ) (here : Stands tree far serial name (short slot)) (is : updateSteps area name value ≡ leaves noRefusal b) where
@@ -233,11 +202,9 @@ module _ (area : List ℕ) (used : ℕ) (tree : Tree) (sound : Sound area used t
         (λ before m. hears-update (entryOf now name) far (updatedSerial serial (length value)) fresh before new-is s) lasting-one
 
   by-update : UpdateDone area used tree name value (updateSteps area name value) → Next area used tree (update name value)
-  by-update (unfound number found is) =
-      let w = found-numbers number (find-refusals area used tree sound name number found) in
-      quiet number is (w .0) (w .1)
-  by-update (longEntry far serial place text here is) = quiet (numberOf Refusal.LongEntry) is refl ((λ z. omega (arith, z)), (λ z. omega (arith, z)))
-  by-update (tooLong far serial slot here long is) = quiet (numberOf Refusal.TooLong) is refl ((λ z. omega (arith, z)), (λ z. omega (arith, z)))
+  by-update (unfound number found is) = quiet number is (found-mild number (find-refusals area used tree sound name number found))
+  by-update (longEntry far serial place text here is) = quiet (numberOf Refusal.LongEntry) is (Refusal.LongEntry, refl, (λ d. clash cc), (λ h. clash cc))
+  by-update (tooLong far serial slot here long is) = quiet (numberOf Refusal.TooLong) is (Refusal.TooLong, refl, (λ d. clash cc), (λ h. clash cc))
   by-update (done far serial slot b fresh here few is S s) = updated-next far serial slot b fresh here is S s
 
   pub next-update : Next area used tree (update name value)

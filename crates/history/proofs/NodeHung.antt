@@ -11,9 +11,9 @@ use Rattle.words.proofs.StoreLaws.{run-length}
 use Rattle.names.specs.Names.{dot}
 use Rattle.layout.specs.Layout.{wordSize, wordMax, usedField, magicField, nodeSize, childrenField, rootAt, firstFree, dataSize, byteOf, nodeTakes, nodeOk}
 use Rattle.layout.proofs.Promises.{touch-yes}
-use Rattle.property_area.proofs.HeaderLaws.{header-max}
-use Rattle.builder.specs.Steps.{goes, stops}
-use Rattle.builder.specs.Nodes.{nodeStores, newNode, hangNode}
+use Rattle.trie.proofs.HeaderLaws.{header-max}
+use Rattle.allocation.specs.Steps.{goes, stops}
+use Rattle.nodes.specs.Nodes.{nodeStores, newNode, hangNode}
 use Rattle.sound.specs.Tree.{bare, Tree, leaf, node, link, entryLink, inside, entryCover, cover}
 use Rattle.sound.specs.Sound.{nodeWords, EntryAt, TreeAt, Without, NodeRule, EntryRule, TreeRule, Front, Sound}
 use Rattle.sound.specs.Ways.{Dir, reached}

@@ -9,10 +9,10 @@ use Rattle.words.specs.Stores.{run, wordStore}
 use Rattle.words.proofs.Laws.{length-little, put-length}
 use Rattle.words.proofs.Promises.{little-put-before, little-put-after, little-put-same}
 use Rattle.layout.specs.Layout.{wordSize, wordMax, nodeSize, namelenField, propField, leftField, rightField, childrenField, byteOf, placeOf, nodeTakes}
-use Rattle.builder.specs.Nodes.{nodeStores}
+use Rattle.nodes.specs.Nodes.{nodeStores}
 use Rattle.sound.specs.Tree.{inside}
 use Rattle.sound.specs.Sound.{NodeAt}
-use Rattle.history.proofs.Storing.{Changed, Within, within-none, within-word, within-text, run-changed, text-stored, word-before-text}
+use Rattle.history.proofs.Storing.{Changed, StoresIn, within-none, within-word, within-text, run-changed, text-stored, word-before-text}
 
 -- ---- a word
 pub record WordSet (area : List ℕ) (place v : ℕ) (b : List ℕ) : Type 0 where
@@ -62,7 +62,7 @@ module _ (area : List ℕ) (at : ℕ) (name : List ℕ) (fits : byteOf at + node
       ∙ little-put-same wordSize _ _ 0 (simp put-length (omega arith)) (omega arith)
   fields (suc (suc (suc (suc (suc k))))) l = absurd (omega arith)
 
-  laid-within : Within (byteOf at) (nodeTakes (length name)) (nodeStores at name)
+  laid-within : StoresIn (byteOf at) (nodeTakes (length name)) (nodeStores at name)
   unfolding nodeStores
   laid-within =
       within-word _ _ (placeOf at propField) 0 _ (omega arith) (omega arith)

@@ -8,21 +8,21 @@ use mathlib.Core.List.{List}
 use lib.Dec.{eqb}
 use lib.ListN.{length}
 use Rattle.words.specs.Words.{sameBytes}
-use Rattle.words.proofs.Laws.{bool-cases}
+use Rattle.words.proofs.Laws.{bool-cases, clash}
 use Rattle.words.proofs.Promises.{same-eq}
 use Rattle.names.specs.Names.{segments}
 use Rattle.layout.specs.declared.refusal.Refusal.{Refusal}
 use Rattle.layout.specs.declared.refusal.Verdict.{Verdict}
 use Rattle.layout.specs.Layout.{wordMax, slotSize, dataSize}
-use Rattle.layout.specs.Refusals.{accepted, refused, numberOf, noRefusal}
+use Rattle.layout.specs.Refusals.{accepted, refused, numberOf, noRefusal, numberIn, bytesIn}
 use Rattle.property_area.specs.Find.{hit}
-use Rattle.builder.specs.Steps.{Step, outcome, total}
+use Rattle.allocation.specs.Steps.{Step, outcome, total}
 use Rattle.builder.specs.Add.{nameVerdict, addSteps}
 use Rattle.updates.specs.Update.{updateSteps}
 use Rattle.sound.specs.Tree.{Value, short, long, bare, entry, Tree}
 use Rattle.sound.specs.Sound.{Sound}
 use Rattle.property_area.specs.Lookup.{shown}
-use Rattle.history.specs.History.{Op, add, update, call, numberIn, bytesIn, opName, heeded, asShown, Shows, roomsIn, opRooms}
+use Rattle.history.specs.History.{Op, add, update, call, opName, heeded, toldBy, AsTold, roomsIn, opRooms}
 use Rattle.history.specs.Lack.{seek, entryOf, lacks}
 use Rattle.history.proofs.Rooms.{which-number}
 use Rattle.history.proofs.Leading.{finds-own}
@@ -38,7 +38,7 @@ module _ (area : List ℕ) (used : ℕ) (tree : Tree) (sound : Sound area used t
   add-accepted named fits = by (add-sound area used tree sound name value)
     where
       by : AddDone area used tree name value (addSteps area name value) → numberIn (outcome (addSteps area name value)) ≡ noRefusal
-      by (badName why e is) = absurd (let q : Verdict.Accepted ≡ Verdict.Refused why = sym named ∙ e in let z : _≡_ {A = ℕ} 0 1 = cc in omega arith)
+      by (badName why e is) = absurd (let q : Verdict.Accepted ≡ Verdict.Refused why = sym named ∙ e in clash cc)
       by (noRoom wanted b rooms grown now e over within is S same) = absurd (omega (arith, over, within, fits))
       by (stays at b rooms grown now serial v e room is sum has S same) = ap (λ (s : Step). numberIn (outcome s)) is
       by (adds at b rooms grown now serial v e room is sum has S new shown others) = ap (λ (s : Step). numberIn (outcome s)) is
@@ -50,7 +50,7 @@ module _ (area : List ℕ) (used : ℕ) (tree : Tree) (sound : Sound area used t
     where
       by : AddDone area used tree name value (addSteps area name value)
           → (numberIn (outcome (addSteps area name value)) ≡ numberOf Refusal.NoRoom) ⊎ ((numberIn (outcome (addSteps area name value)) ≡ numberOf Refusal.TooLarge) × (wordMax < used + lacks tree name value))
-      by (badName why e is) = absurd (let q : Verdict.Accepted ≡ Verdict.Refused why = sym named ∙ e in let z : _≡_ {A = ℕ} 0 1 = cc in omega arith)
+      by (badName why e is) = absurd (let q : Verdict.Accepted ≡ Verdict.Refused why = sym named ∙ e in clash cc)
       by (noRoom wanted b rooms grown now e full within is S same) = which-number wanted _ (used + lacks tree name value) within (ap (λ (s : Step). numberIn (outcome s)) is)
       by (stays at b rooms grown now serial v e room is sum has S same) = absurd (omega (arith, over, room))
       by (adds at b rooms grown now serial v e room is sum has S new shown others) = absurd (omega (arith, over, room))
@@ -60,7 +60,7 @@ module _ (area : List ℕ) (used : ℕ) (tree : Tree) (sound : Sound area used t
   add-rooms named fits = by (add-sound area used tree sound name value)
     where
       by : AddDone area used tree name value (addSteps area name value) → total (roomsIn (addSteps area name value)) ≡ lacks tree name value
-      by (badName why e is) = absurd (let q : Verdict.Accepted ≡ Verdict.Refused why = sym named ∙ e in let z : _≡_ {A = ℕ} 0 1 = cc in omega arith)
+      by (badName why e is) = absurd (let q : Verdict.Accepted ≡ Verdict.Refused why = sym named ∙ e in clash cc)
       by (noRoom wanted b rooms grown now e over within is S same) = absurd (omega (arith, over, within, fits))
       by (stays at b rooms grown now serial v e room is sum has S same) = ap (λ (s : Step). total (roomsIn s)) is ∙ sum
       by (adds at b rooms grown now serial v e room is sum has S new shown others) = ap (λ (s : Step). total (roomsIn s)) is ∙ sum
@@ -76,19 +76,19 @@ module _ (area : List ℕ) (used : ℕ) (tree : Tree) (sound : Sound area used t
       by : UpdateDone area used tree name value (updateSteps area name value) → numberIn (updateSteps area name value) ≡ noRefusal
       by (unfound number found is) =
           let f = entry-found area used tree sound name at serial name (short slot) has in
-          absurd (let q : accepted (hit at (f .0)) ≡ refused number = sym (f .1) ∙ found in let z : _≡_ {A = ℕ} 0 1 = cc in omega arith)
+          absurd (let q : accepted (hit at (f .0)) ≡ refused number = sym (f .1) ∙ found in clash cc)
       by (longEntry far s place text here is) =
-          absurd (let q : entry at serial name (short slot) ≡ entry far s name (long place text) = sym has ∙ stands far s (long place text) here in let z : _≡_ {A = ℕ} 0 1 = cc in omega arith)
+          absurd (let q : entry at serial name (short slot) ≡ entry far s name (long place text) = sym has ∙ stands far s (long place text) here in clash cc)
       by (tooLong far s other here over is) = absurd (omega (arith, over, few))
       by (done far s other b fresh here less is S e) = ap numberIn is
 
 -- a call changes what its own name shows, and no other's
 pub others-kept : (area : List ℕ) (used : ℕ) (tree : Tree) → Sound area used tree → (op : Op) (other : List ℕ) → other ≢ opName op
-    → Shows (shown (bytesIn (call area op)) other) (asShown (shown area other))
+    → AsTold (shown (bytesIn (call area op)) other) (toldBy (shown area other))
 others-kept area used tree sound op other differs =
     let n = next area used tree sound op in
-    let t = n .tells other (asShown (shown area other)) (shown-matches area used tree sound other (entryOf tree other) refl) in
-    matched-shows (bytesIn (call area op)) (n .grown) (n .now) (n .sound) other (entryOf (n .now) other) (asShown (shown area other)) refl (rw unheeded at t)
+    let t = n .tells other (toldBy (shown area other)) (shown-matches area used tree sound other (entryOf tree other) refl) in
+    matched-shows (bytesIn (call area op)) (n .grown) (n .now) (n .sound) other (entryOf (n .now) other) (toldBy (shown area other)) refl (rw unheeded at t)
   where
     apart : sameBytes (opName op) other ≡ false
     apart = bool-cases (sameBytes (opName op) other) (λ t. absurd (differs (sym (same-eq (opName op) other t)))) (λ f. f)

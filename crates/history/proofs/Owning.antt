@@ -4,6 +4,7 @@ use native.Mathlib.Omega.{arith}
 use mathlib.Core.Path.{_≡_, refl, sym, ap, _∙_}
 use mathlib.Core.Logic.{_≢_}
 use mathlib.Core.List.{List, [], _∷_, _++_}
+use Rattle.words.proofs.Laws.{clash}
 use Rattle.names.specs.Names.{dot, segmentOrder}
 use Rattle.names.specs.declared.Order.{Order}
 use Rattle.names.specs.declared.Order.the-variants.{Less, Greater}
@@ -43,7 +44,7 @@ module _ (at : ℕ) (name : List ℕ) (own : Entry) (left below right : Tree) wh
   side-first : (way : List Dir) (order : Order) (full : List ℕ) (tree : Tree) → Side order full tree → reached tree way ≡ node at name own left below right
       → (segment : List ℕ) × (rest : List (List ℕ)) × (namesTo tree way ≡ segment ∷ rest) × (segmentOrder segment full ≡ order)
   unfolding reached toward namesTo Side
-  side-first [] order full leaf side is = absurd (let q : _≡_ {A = ℕ} 0 1 = cc in omega arith)
+  side-first [] order full leaf side is = clash cc
   side-first (dir ∷ way) order full leaf side is = side-first way order full leaf side is
   side-first [] order full (node place other next l b r) side is = (other, [], refl, side .0)
   side-first (toLeft ∷ way) order full (node place other next l b r) side is = side-first way order full l (side .1) is
@@ -55,7 +56,7 @@ module _ (at : ℕ) (name : List ℕ) (own : Entry) (left below right : Tree) wh
     pub seek-new : (way : List Dir) (prefix : List ℕ) (tree : Tree) (above : Entry) → TreeRule prefix tree → reached tree way ≡ node at name own left below right
         → seek (namesTo tree way) above (plug tree way (node at name new left below right)) ≡ new
     unfolding reached toward plug hang namesTo TreeRule
-    seek-new [] prefix leaf above rule is = absurd (let q : _≡_ {A = ℕ} 0 1 = cc in omega arith)
+    seek-new [] prefix leaf above rule is = clash cc
     seek-new (dir ∷ way) prefix leaf above rule is = seek-new way prefix leaf above rule is
     seek-new [] prefix (node place other next l b r) above rule is =
         let same : other ≡ name = cc in

@@ -11,8 +11,8 @@ use Rattle.words.specs.Stores.{run, wordStore}
 use Rattle.layout.specs.declared.refusal.Refusal.{Refusal}
 use Rattle.layout.specs.Layout.{wordMax, usedField, dataSize, headerWord}
 use Rattle.layout.specs.Refusals.{numberOf}
-use Rattle.builder.specs.Steps.{goes, stops, stopBy}
-use Rattle.builder.specs.Allocate.{allocate}
+use Rattle.allocation.specs.Steps.{goes, stops, stopBy}
+use Rattle.allocation.specs.Allocate.{allocate}
 use Rattle.history.specs.Lack.{fullNumber}
 
 module _ (area : List ℕ) (room used : ℕ) (mark : headerWord area usedField ≡ used) where

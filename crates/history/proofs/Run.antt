@@ -7,14 +7,14 @@ use mathlib.Core.Bool.{cond}
 use mathlib.Core.List.{List, [], _∷_, _++_}
 use mathlib.Core.Option.{Option, none, some}
 use Rattle.builder.proofs.Used.{total-append}
-use Rattle.builder.specs.Steps.{total}
+use Rattle.allocation.specs.Steps.{total}
 use Rattle.layout.specs.declared.refusal.Refusal.{Refusal}
-use Rattle.layout.specs.Refusals.{accepted, refuse}
+use Rattle.layout.specs.Refusals.{accepted, refuse, bytesIn}
 use Rattle.counters.specs.Distance.{serialAfter}
 use Rattle.sound.specs.Tree.{Entry, bare, entry, Tree}
 use Rattle.sound.specs.Sound.{Sound}
 use Rattle.property_area.specs.Lookup.{shown}
-use Rattle.history.specs.History.{Op, call, bytesIn, after, hear, heeded, told, asShown, Shows, sizeIn, updateSizes, opRooms, given}
+use Rattle.history.specs.History.{Op, call, after, hear, heeded, told, toldBy, AsTold, sizeIn, updateSizes, opRooms, given}
 use Rattle.history.specs.Lack.{entryOf}
 use Rattle.history.proofs.Showing.{shown-some, shown-none}
 use Rattle.history.proofs.Next.{Matches, Lasts, next}
@@ -70,16 +70,16 @@ ran (op ∷ ops) area used tree sound =
 
 -- ---- what is shown, by what is told
 module _ (area : List ℕ) (used : ℕ) (tree : Tree) (sound : Sound area used tree) (name : List ℕ) where
-  pub matched-shows : (e : Entry) (told : Option (List ℕ)) → entryOf tree name ≡ e → Matches e told → Shows (shown area name) told
+  pub matched-shows : (e : Entry) (told : Option (List ℕ)) → entryOf tree name ≡ e → Matches e told → AsTold (shown area name) told
   matched-shows bare none h m = shown-none area used tree sound name h
   matched-shows bare (some value) h m = absurd m
   matched-shows (entry at serial full v) none h m = absurd m
   matched-shows (entry at serial full v) (some value) h m = shown-some area used tree sound name at serial full v h .0 ∙ ap accepted m
 
-  pub shown-matches : (e : Entry) → entryOf tree name ≡ e → Matches e (asShown (shown area name))
+  pub shown-matches : (e : Entry) → entryOf tree name ≡ e → Matches e (toldBy (shown area name))
   shown-matches bare h = by (shown-none area used tree sound name h)
     where
-      by : (shown area name ≡ refuse Refusal.Missing) ⊎ (shown area name ≡ refuse Refusal.EmptySegment) → Matches bare (asShown (shown area name))
+      by : (shown area name ≡ refuse Refusal.Missing) ⊎ (shown area name ≡ refuse Refusal.EmptySegment) → Matches bare (toldBy (shown area name))
       by (inl e) = rw e tt
       by (inr e) = rw e tt
   shown-matches (entry at serial full v) h = rw (shown-some area used tree sound name at serial full v h .0) refl

@@ -1,4 +1,4 @@
--- The entry that a path of segments leads to, and how a lookup answers by it: 3 where there is none, else its offset and the nodes compared.
+-- The entry that a path of segments leads to, and how find answers by it: 3 where there is none, else its offset and the nodes compared.
 use Prim.Native.Nat.{ℕ, _+_}
 use native.Mathlib.Nat.{add-zero, add-assoc}
 use native.Mathlib.Omega.{arith}
@@ -7,7 +7,7 @@ use mathlib.Core.Bool.{true, false}
 use mathlib.Core.List.{List, [], _∷_}
 use lib.Dec.{eqb}
 use lib.ListN.{length}
-use Rattle.words.proofs.Laws.{bool-cases}
+use Rattle.words.proofs.Laws.{bool-cases, clash}
 use Rattle.names.specs.Names.{segmentOrder}
 use Rattle.names.specs.declared.Order.{Order}
 use Rattle.names.specs.declared.Order.the-variants.{Less, Equal, Greater}
@@ -42,7 +42,7 @@ unfolding look seek costs anyEmpty
 look-seek [] own below compared full = rw add-zero
 look-seek (segment ∷ rest) own below compared full =
     bool-cases (eqb (length segment) 0)
-    (λ t. let k : true ≡ false = rw t at full in absurd (let q : _≡_ {A = ℕ} 0 1 = cc in omega arith))
+    (λ t. let k : true ≡ false = rw t at full in clash cc)
     (λ t. rw t (by (reached below (spot segment below)) (λ next under more. look-seek rest next under more (rw t at full))))
   where
     by : (end : Tree)
@@ -64,7 +64,7 @@ IsAt at own = (serial : ℕ) × (name : List ℕ) × (value : Value) × (own ≡
 
 own-found : (own : Entry) (compared at count : ℕ) → ownAnswer own compared ≡ accepted (hit at count) → IsAt at own
 unfolding ownAnswer
-own-found bare compared at count e = absurd (let q : _≡_ {A = ℕ} 0 1 = cc in omega arith)
+own-found bare compared at count e = clash cc
 own-found (entry from serial name value) compared at count e = (serial, name, value, let same : from ≡ at = cc in rw same)
 
 pub seek-found : (segs : List (List ℕ)) (own : Entry) (below : Tree) (compared at count : ℕ)
@@ -73,13 +73,13 @@ unfolding look seek
 seek-found [] own below compared at count e = own-found own compared at count e
 seek-found (segment ∷ rest) own below compared at count e =
     bool-cases (eqb (length segment) 0)
-    (λ t. let k : refuse Refusal.EmptySegment ≡ accepted (hit at count) = rw t at e in absurd (let q : _≡_ {A = ℕ} 0 1 = cc in omega arith))
+    (λ t. let k : refuse Refusal.EmptySegment ≡ accepted (hit at count) = rw t at e in clash cc)
     (λ t. by (reached below (spot segment below)) (rw t at e) (seek-found rest))
   where
     by : (end : Tree) → byNode end (refuse Refusal.Missing) (λ next under. look rest next under (compared + compares segment below)) ≡ accepted (hit at count)
         → ((next : Entry) (under : Tree) (more at count : ℕ) → look rest next under more ≡ accepted (hit at count) → IsAt at (seek rest next under))
         → IsAt at (byNode end bare (λ next under. seek rest next under))
-    by leaf e on = absurd (let q : _≡_ {A = ℕ} 0 1 = cc in omega arith)
+    by leaf e on = clash cc
     by (node place name next left under right) e on = on next under (compared + compares segment below) at count e
 
 -- ---- some segment is empty: no node has that name

@@ -7,14 +7,15 @@ use mathlib.Core.List.{List, [], _∷_, _++_, append-nil}
 use lib.ListN.{length}
 use borrow.Author.Tests.{ne-eqb}
 use Rattle.words.specs.Words.{littleAt}
+use Rattle.words.proofs.Laws.{clash}
 use Rattle.names.specs.Names.{segmentOrder}
 use Rattle.names.specs.declared.Order.{Order}
 use Rattle.names.specs.declared.Order.the-variants.{Less, Equal, Greater}
 use Rattle.names.proofs.Promises.{order-self}
 use Rattle.layout.specs.Layout.{wordSize, leftField, rightField, childrenField, dataSize, byteOf, placeOf, wordAt, nodeTakes}
-use Rattle.property_area.specs.Trie.{nodesMax, segmentSteps}
-use Rattle.builder.specs.Steps.{goes, stops, andThen, total}
-use Rattle.builder.specs.Nodes.{hangNode, orHang, addNode, addSegment}
+use Rattle.trie.specs.Trie.{nodesMax, segmentSteps}
+use Rattle.allocation.specs.Steps.{goes, stops, andThen, total}
+use Rattle.nodes.specs.Nodes.{hangNode, orHang, addNode, addSegment}
 use Rattle.sound.specs.Tree.{Entry, bare, Tree, leaf, node, link}
 use Rattle.sound.specs.Sound.{Sound}
 use Rattle.sound.specs.Ways.{Dir, toLeft, toBelow, toRight, toward, reached}
@@ -134,7 +135,7 @@ module _ (area : List ℕ) (used : ℕ) (tree : Tree) (v : List Dir) (parent : �
       unfolding endsAt spot reached
       goes-there leaf e =
           let k : leaf ≡ node at name own left below right = rw (reached-append v (spot segment (reached tree v)) tree, e) at there in
-          absurd (let q : _≡_ {A = ℕ} 0 1 = cc in omega arith)
+          clash cc
       goes-there (node first other with l b r) e = some-there first other with l b r e ∙ rw there
 
       pub further-there : Further 0 below

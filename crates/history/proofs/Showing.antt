@@ -1,10 +1,10 @@
 -- What a lookup shows over the bytes of a sound area, told by its tree: the value of the name's entry; where there is none, a refusal.
 use Prim.Native.Nat.{ℕ}
-use native.Mathlib.Nat.{zero-add}
 use native.Mathlib.Omega.{arith}
 use mathlib.Core.Path.{_≡_, refl, sym, ap, _∙_}
 use mathlib.Core.Logic.{_⊎_, inl, inr}
 use mathlib.Core.List.{List}
+use Rattle.words.proofs.Laws.{clash}
 use Rattle.names.specs.Names.{segments}
 use Rattle.layout.specs.declared.refusal.Refusal.{Refusal}
 use Rattle.layout.specs.Refusals.{Answer, accepted, refused, refuse}
@@ -12,10 +12,10 @@ use Rattle.property_area.specs.Find.{Hit, hit}
 use Rattle.sound.specs.Tree.{Value, bare, entry, Tree}
 use Rattle.sound.specs.Sound.{Sound}
 use Rattle.sound.specs.Ways.{reached}
-use Rattle.finding.specs.Look.{look, costs, shows}
+use Rattle.finding.specs.Look.{look, costs, valueText}
 use Rattle.finding.proofs.FindLook.{find-look}
 use Rattle.finding.proofs.Spelling.{ownOf, one-name}
-use Rattle.finding.proofs.Costs.{Counts, look-counts}
+use Rattle.finding.proofs.Costs.{Counts, look-counted}
 use Rattle.finding.proofs.Promises.{own-found, value-shown}
 use Rattle.history.specs.Lack.{entryOf}
 use Rattle.property_area.specs.Lookup.{shown}
@@ -24,7 +24,7 @@ use Rattle.history.proofs.Leading.{seek-leads, seek-name}
 
 module _ (area : List ℕ) (used : ℕ) (tree : Tree) (sound : Sound area used tree) (name : List ℕ) where
   -- ---- there is one: it has that name, and its value is shown
-  pub shown-some : (at serial : ℕ) (nm : List ℕ) (v : Value) → entryOf tree name ≡ entry at serial nm v → (shown area name ≡ accepted (shows v)) × (nm ≡ name)
+  pub shown-some : (at serial : ℕ) (nm : List ℕ) (v : Value) → entryOf tree name ≡ entry at serial nm v → (shown area name ≡ accepted (valueText v)) × (nm ≡ name)
   unfolding shown
   shown-some at serial nm v e =
       let there = seek-leads at serial nm v (segments name) tree e in
@@ -40,7 +40,7 @@ module _ (area : List ℕ) (used : ℕ) (tree : Tree) (sound : Sound area used t
   shown-which number e = rw (find-look area name used tree sound, e)
 
   pub shown-none : entryOf tree name ≡ bare → (shown area name ≡ refuse Refusal.Missing) ⊎ (shown area name ≡ refuse Refusal.EmptySegment)
-  shown-none none = by (look (segments name) bare tree 0) refl (look-counts (segments name) bare tree 0 (costs (segments name) tree) (zero-add (costs (segments name) tree)))
+  shown-none none = by (look (segments name) bare tree 0) refl (look-counted (segments name) tree)
     where
       by : (answer : Answer Hit) → look (segments name) bare tree 0 ≡ answer → Counts (costs (segments name) tree) answer
           → (shown area name ≡ refuse Refusal.Missing) ⊎ (shown area name ≡ refuse Refusal.EmptySegment)
@@ -49,4 +49,4 @@ module _ (area : List ℕ) (used : ℕ) (tree : Tree) (sound : Sound area used t
       by (accepted (hit at count)) e counts =
           let found = seek-found (segments name) bare tree 0 at count e in
           let k : bare ≡ entry at (found .0) (found .1) (found .2) = sym none ∙ found .3 in
-          absurd (let q : _≡_ {A = ℕ} 0 1 = cc in omega arith)
+          clash cc

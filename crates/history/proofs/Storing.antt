@@ -29,33 +29,33 @@ changed-then a b c one two count f g h = record {
 }
 
 -- every store lies between two places
-unfoldable pub Within : ℕ → ℕ → List Store → Type 0
-Within from size [] = Unit {0}
-Within from size (store at bs ∷ rest) = (from ≤ at) × (at + length bs ≤ from + size) × Within from size rest
+unfoldable pub StoresIn : ℕ → ℕ → List Store → Type 0
+StoresIn from size [] = Unit {0}
+StoresIn from size (store at bs ∷ rest) = (from ≤ at) × (at + length bs ≤ from + size) × StoresIn from size rest
 
 module _ (from size : ℕ) where
-  pub within-none : Within from size []
-  unfolding Within
+  pub within-none : StoresIn from size []
+  unfolding StoresIn
   within-none = tt
 
-  pub within-store : (at : ℕ) (bs : List ℕ) (rest : List Store) → from ≤ at → at + length bs ≤ from + size → Within from size rest → Within from size (store at bs ∷ rest)
-  unfolding Within
+  pub within-store : (at : ℕ) (bs : List ℕ) (rest : List Store) → from ≤ at → at + length bs ≤ from + size → StoresIn from size rest → StoresIn from size (store at bs ∷ rest)
+  unfolding StoresIn
   within-store at bs rest low high w = (low, high, w)
 
-  pub within-word : (at v : ℕ) (rest : List Store) → from ≤ at → at + wordSize ≤ from + size → Within from size rest → Within from size (wordStore at v ∷ rest)
+  pub within-word : (at v : ℕ) (rest : List Store) → from ≤ at → at + wordSize ≤ from + size → StoresIn from size rest → StoresIn from size (wordStore at v ∷ rest)
   within-word at v rest low high w = within-store at (littleBytes wordSize v) rest low (omega (arith, length-little wordSize v)) w
 
-  pub within-append : (a b : List Store) → Within from size a → Within from size b → Within from size (a ++ b)
-  unfolding Within
+  pub within-append : (a b : List Store) → StoresIn from size a → StoresIn from size b → StoresIn from size (a ++ b)
+  unfolding StoresIn
   within-append [] b f g = g
   within-append (store at bs ∷ a) b f g = (f .0, f .1, within-append a b (f .2) g)
 
-  within-bytes : (at : ℕ) (bs : List ℕ) → from ≤ at → at + length bs ≤ from + size → Within from size (byteStores at bs)
+  within-bytes : (at : ℕ) (bs : List ℕ) → from ≤ at → at + length bs ≤ from + size → StoresIn from size (byteStores at bs)
   unfolding byteStores
   within-bytes at [] low high = within-none
   within-bytes at (b ∷ bs) low high = within-store at (b ∷ []) (byteStores (at + 1) bs) low (omega arith) (within-bytes (at + 1) bs (omega arith) (omega arith))
 
-  pub within-text : (at : ℕ) (text : List ℕ) → from ≤ at → at + (length text + 1) ≤ from + size → Within from size (textStores at text)
+  pub within-text : (at : ℕ) (text : List ℕ) → from ≤ at → at + (length text + 1) ≤ from + size → StoresIn from size (textStores at text)
   within-text at text low high = within-bytes at (text ++ 0 ∷ []) low (omega (arith, text-length text))
 
 put-outside : (s : List ℕ) (at : ℕ) (bs : List ℕ) (i : ℕ) → inside at (length bs) i ≡ 0 → getD (put s at bs) i 0 ≡ getD s i 0
@@ -66,13 +66,13 @@ put-outside s at bs i h = by (decLt i at) (decLt i (at + length bs))
     by (no p) (yes q) = absurd (omega (arith, inside-yes at (length bs) i (omega arith) q))
     by (no p) (no q) = put-after s at bs i (omega arith)
 
-pub run-outside : (s : List ℕ) (from size : ℕ) (stores : List Store) (i : ℕ) → Within from size stores → inside from size i ≡ 0 → getD (run s stores) i 0 ≡ getD s i 0
-unfolding Within run
+pub run-outside : (s : List ℕ) (from size : ℕ) (stores : List Store) (i : ℕ) → StoresIn from size stores → inside from size i ≡ 0 → getD (run s stores) i 0 ≡ getD s i 0
+unfolding StoresIn run
 run-outside s from size [] i w h = refl
 run-outside s from size (store at bs ∷ rest) i w h =
     run-outside (put s at bs) from size rest i (w .2) h ∙ put-outside s at bs i (omega (arith, inside-part from size at (length bs) i (w .0) (w .1)))
 
-pub run-changed : (s : List ℕ) (from size : ℕ) (stores : List Store) → Within from size stores → Changed s (run s stores) (inside from size)
+pub run-changed : (s : List ℕ) (from size : ℕ) (stores : List Store) → StoresIn from size stores → Changed s (run s stores) (inside from size)
 run-changed s from size stores w = record { size = run-length s stores; kept = λ i h. run-outside s from size stores i w h }
 
 -- bytes behind a change

@@ -7,13 +7,12 @@ use mathlib.Core.Path.{_≡_, sym, ap, _∙_}
 use mathlib.Core.List.{List}
 use lib.ListN.{length, getD}
 use lib.Seq.{getD-take, length-take-le}
-use Rattle.words.specs.Words.{firstIn, part}
+use Rattle.words.specs.Words.{firstIn, part, upToZero}
 use Rattle.words.proofs.Laws.{first-high}
 use Rattle.words.proofs.Promises.{first-none, first-there}
 use Rattle.sound.specs.Sound.{Holds, HoldsText, Has, Without}
 use Rattle.sound.proofs.Holding.{text-bytes, text-zero, text-holds}
 use Rattle.finding.proofs.NodeReads.{part-holds, first-zero}
-use Rattle.history.specs.History.{upToZero}
 
 module _ (bs : List ℕ) where
   -- where it is

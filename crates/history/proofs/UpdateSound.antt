@@ -5,15 +5,16 @@ use native.Mathlib.Decide.{decLt}
 use mathlib.Core.Path.{_≡_, refl}
 use mathlib.Core.List.{List, [], _++_}
 use lib.ListN.{length}
-use borrow.Author.Tests.{eq-eqb}
+use Rattle.words.specs.Words.{upToZero}
 use Rattle.words.specs.Stores.{run}
+use Rattle.words.proofs.Laws.{clash}
 use Rattle.layout.specs.declared.refusal.Refusal.{Refusal}
-use Rattle.layout.specs.Layout.{entrySize, serialField, slotSize, longBit, firstFree, byteOf, placeOf, entryTakes}
+use Rattle.layout.specs.Layout.{entrySize, serialField, slotSize, firstFree, byteOf, placeOf, entryTakes}
 use Rattle.layout.specs.Refusals.{Answer, accepted, refused, Outcome, leaves, acceptLeaving, refuseLeaving}
 use Rattle.property_info.specs.Serial.{updatedSerial}
-use Rattle.property_info.specs.Entry.{isLong}
-use Rattle.property_area.specs.Find.{Hit, hit, findSteps}
-use Rattle.updates.specs.Update.{updateStores, updateEntry, byHit, updateSteps}
+use Rattle.property_info.proofs.Laws.{long-is}
+use Rattle.property_area.specs.Find.{Hit, hit, byHit, findSteps}
+use Rattle.updates.specs.Update.{updateStores, updateEntry, updateSteps}
 use Rattle.updates.proofs.Laws.{value-long}
 use Rattle.sound.specs.Tree.{Value, short, long, Entry, entry, Tree, leaf, node}
 use Rattle.sound.specs.Sound.{EntryAt, TreeAt, ValueRule, EntryRule, TreeRule, Sound}
@@ -24,7 +25,6 @@ use Rattle.growth.proofs.SoundPut.{sound-slot}
 use Rattle.finding.proofs.NodeReads.{Standing, entry-lies, own-room}
 use Rattle.finding.proofs.Spelling.{ownOf}
 use Rattle.finding.proofs.Promises.{found-own}
-use Rattle.history.specs.History.{upToZero}
 use Rattle.history.proofs.Updated.{ShortUpdated, is-short, update-tests, updated}
 use Rattle.history.proofs.EntryHung.{node-stands}
 
@@ -45,7 +45,7 @@ unfolding TreeRule EntryRule
 own-stands tree way far serial name v rule own = by (reached tree way) refl own
   where
     by : (end : Tree) → reached tree way ≡ end → ownOf end ≡ entry far serial name v → Stands tree far serial name v
-    by leaf there own = absurd (let q : _≡_ {A = ℕ} 0 1 = cc in omega arith)
+    by leaf there own = clash cc
     by (node at segment held left below right) there own =
         let is : reached tree way ≡ node at segment (entry far serial name v) left below right = rw own at there in
         record {
@@ -79,11 +79,11 @@ module _ (area : List ℕ) (used : ℕ) (tree : Tree) (sound : Sound area used t
   -- ---- a long entry: 7
   long-refused : (far serial place : ℕ) (text : List ℕ) → Stands tree far serial name (long place text)
       → updateEntry area value far ≡ refuseLeaving area Refusal.LongEntry
-  unfolding updateEntry isLong TreeAt EntryAt TreeRule EntryRule ValueRule
+  unfolding updateEntry TreeAt EntryAt TreeRule EntryRule ValueRule
   long-refused far serial place text here =
       let stands = node-stands area used tree (here .way) (here .at) (here .segment) (entry far serial name (long place text)) (here .left) (here .below) (here .right)
       (here .is) sound in
-      rw (stands .1 .bytes .1 .0, eq-eqb (serial / longBit % 2) 1 (stands .1 .rule .1 .2 .0))
+      rw (long-is area far serial (stands .1 .bytes .1 .0) (stands .1 .rule .1 .2 .0))
 
   -- ---- a short one
   module _ (far serial : ℕ) (slot : List ℕ) (here : Stands tree far serial name (short slot)) where
@@ -124,7 +124,7 @@ module _ (area : List ℕ) (used : ℕ) (tree : Tree) (sound : Sound area used t
         (sound-slot area used tree (here .way) (here .at) (here .segment) far serial name slot (here .left) (here .below) (here .right) (here .is) sound
         (run area (updateStores area far value)) (updatedSerial serial (length value)) (new .entry .slot) (new .rest .size)
         (λ i z y. new .rest .kept i (rw whole (omega arith))) (new .entry .bytes .0) (new .entry .rule .0) (new .entry .bytes .2) (new .entry .rule .1))
-        (new .entry .shows)
+        (new .entry .valueText)
 
   -- ---- what is found
   entry-done : (far serial : ℕ) (v : Value) → Stands tree far serial name v → UpdateDone area used tree name value (updateEntry area value far)
@@ -139,7 +139,7 @@ module _ (area : List ℕ) (used : ℕ) (tree : Tree) (sound : Sound area used t
   unfolding updateSteps
   update-sound = by (findSteps area name) refl
     where
-      by : (answer : Answer Hit) → findSteps area name ≡ answer → UpdateDone area used tree name value (byHit area answer (updateEntry area value))
+      by : (answer : Answer Hit) → findSteps area name ≡ answer → UpdateDone area used tree name value (byHit (λ number. leaves number area) (updateEntry area value) answer)
       by (refused number) e = unfound number e refl
       by (accepted (hit far count)) e =
           let found = found-own area used tree sound name far count e in

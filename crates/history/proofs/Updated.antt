@@ -6,24 +6,24 @@ use mathlib.Core.Bool.{false}
 use mathlib.Core.List.{List, [], _∷_, _++_}
 use lib.ListN.{length}
 use borrow.Author.Tests.{ne-eqb, le-ltb}
-use Rattle.words.specs.Words.{littleBytes, put}
+use Rattle.words.specs.Words.{littleBytes, put, upToZero}
 use Rattle.words.specs.Stores.{run, textStores}
 use Rattle.words.proofs.Laws.{length-little, put-length, put-after}
 use Rattle.words.proofs.StoreLaws.{run-append, run-length}
 use Rattle.words.proofs.Promises.{little-put-same}
-use Rattle.layout.specs.Layout.{wordSize, entrySize, serialField, slotField, slotSize, longBit, backupAt, backupSize, firstFree, dataSize, byteOf, placeOf}
+use Rattle.layout.specs.Layout.{wordSize, entrySize, serialField, slotField, slotSize, backupAt, backupSize, firstFree, dataSize, byteOf, placeOf}
 use Rattle.layout.specs.Refusals.{acceptLeaving}
 use Rattle.property_info.specs.Serial.{dirty, updatedSerial}
 use Rattle.property_info.specs.Entry.{isLong}
 use Rattle.property_info.specs.Written.{writeStores}
+use Rattle.property_info.proofs.Laws.{short-is}
 use Rattle.property_info.proofs.WrittenLaws.{write-run}
 use Rattle.property_info.proofs.Promises.{updated-short}
 use Rattle.updates.specs.Update.{backupStores, slotText, updateStores, updateEntry}
 use Rattle.updates.proofs.Laws.{value-fine}
 use Rattle.sound.specs.Tree.{short, entry, inside}
 use Rattle.sound.specs.Sound.{HoldsText, ValueAt, EntryAt, ValueRule}
-use Rattle.history.specs.History.{upToZero}
-use Rattle.history.proofs.Storing.{Changed, changed-then, Within, within-none, within-word, within-append, within-text, run-changed, holds-above, text-stored}
+use Rattle.history.proofs.Storing.{Changed, changed-then, StoresIn, within-none, within-word, within-append, within-text, run-changed, holds-above, text-stored}
 use Rattle.history.proofs.UpToZero.{up-before, up-whole, up-held, scan-shows}
 use Rattle.history.proofs.EntryLaid.{ShowsShort, short-stands}
 
@@ -46,8 +46,8 @@ module _ (area : List ℕ) (at serial : ℕ) (name slot : List ℕ) (held : Entr
   slot-text-few = rw slot-text (omega (arith, up-before slot (rule .1), held .2 .1))
 
   pub is-short : isLong area at ≡ false
-  unfolding isLong EntryAt ValueRule
-  is-short = rw (held .0) (ne-eqb (serial / longBit % 2) 1 (λ e. omega (arith, rule .0)))
+  unfolding EntryAt ValueRule
+  is-short = short-is area at serial (held .0) (rule .0)
 
   module _ (value : List ℕ) (few : length value < slotSize) where
     pub update-tests : updateEntry area value at ≡ acceptLeaving (run area (updateStores area at value))
@@ -87,7 +87,7 @@ module _ (area : List ℕ) (at serial : ℕ) (name slot : List ℕ) (held : Entr
         run-changed area (byteOf backupAt) backupSize (backupStores (slotText area at))
         (within-text (byteOf backupAt) backupSize (byteOf backupAt) (slotText area at) (omega arith) (omega (arith, slot-text-few)))
 
-    write-within : Within (placeOf at serialField) entrySize (writeStores at serial value)
+    write-within : StoresIn (placeOf at serialField) entrySize (writeStores at serial value)
     unfolding writeStores
     write-within =
         within-word _ _ (placeOf at serialField) (dirty serial) _ (omega arith) (omega arith)

@@ -5,12 +5,12 @@ use mathlib.Core.Logic.{_⊎_}
 use mathlib.Core.Bool.{Bool, cond, _&&_}
 use mathlib.Core.List.{List, [], _∷_, _++_}
 use mathlib.Core.Option.{Option, none, some}
-use lib.ListN.{length, take}
+use lib.ListN.{length}
 use lib.Dec.{eqb}
-use Rattle.words.specs.Words.{firstIn, sameBytes}
+use Rattle.words.specs.Words.{upToZero, sameBytes}
 use Rattle.layout.specs.declared.refusal.Refusal.{Refusal}
-use Rattle.layout.specs.Refusals.{Answer, accepted, refused, refuse, noRefusal, Outcome, leaves}
-use Rattle.builder.specs.Steps.{Step, goes, stops, outcome}
+use Rattle.layout.specs.Refusals.{Answer, accepted, refused, refuse, noRefusal, Outcome, numberIn, bytesIn}
+use Rattle.allocation.specs.Steps.{Step, goes, stops, outcome}
 use Rattle.builder.specs.Add.{addSteps}
 use Rattle.updates.specs.Update.{updateSteps}
 
@@ -24,21 +24,12 @@ abbrev pub call : List ℕ → Op → Outcome
 call area (add name value) = outcome (addSteps area name value)
 call area (update name value) = updateSteps area name value
 
-abbrev pub numberIn : Outcome → ℕ
-numberIn (leaves number area) = number
-
-abbrev pub bytesIn : Outcome → List ℕ
-bytesIn (leaves number area) = area
-
 -- the area after a run of calls, refused ones included
 unfoldable pub after : List ℕ → List Op → List ℕ
 after area [] = area
 after area (op ∷ ops) = after (bytesIn (call area op)) ops
 
 -- ---- what a lookup (`shown`) ought to show: the value of a name's last accepted update, or else of its first accepted add, up to its first zero byte
-abbrev pub upToZero : List ℕ → List ℕ
-upToZero value = take (firstIn 0 value 0 (length value)) value
-
 abbrev pub opName : Op → List ℕ
 opName (add name value) = name
 opName (update name value) = name
@@ -57,15 +48,15 @@ unfoldable pub told : List ℕ → List ℕ → List Op → Option (List ℕ) �
 told area name [] before = before
 told area name (op ∷ ops) before = told (bytesIn (call area op)) name ops (cond (heeded area name op) (hear op before) before)
 
--- what was shown before the run
-abbrev pub asShown : Answer (List ℕ) → Option (List ℕ)
-asShown (accepted value) = some value
-asShown (refused number) = none
+-- what an answer tells: the value that it shows, or none
+abbrev pub toldBy : Answer (List ℕ) → Option (List ℕ)
+toldBy (accepted value) = some value
+toldBy (refused number) = none
 
 -- told a value, a lookup shows it; told none, it is refused as missing (3) or malformed (2)
-abbrev pub Shows : Answer (List ℕ) → Option (List ℕ) → Type 0
-Shows answer (some value) = answer ≡ accepted value
-Shows answer none = (answer ≡ refuse Refusal.Missing) ⊎ (answer ≡ refuse Refusal.EmptySegment)
+abbrev pub AsTold : Answer (List ℕ) → Option (List ℕ) → Type 0
+AsTold answer (some value) = answer ≡ accepted value
+AsTold answer none = (answer ≡ refuse Refusal.Missing) ⊎ (answer ≡ refuse Refusal.EmptySegment)
 
 -- ---- the lengths of the values of a name's accepted updates
 abbrev pub sizeIn : Op → List ℕ

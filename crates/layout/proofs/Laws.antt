@@ -1,15 +1,15 @@
--- Laws of specs/: touching, text, and that no two refusals share a number.
-use mathlib.Core.Path.{_≡_, sym}
+-- Laws of specs/Layout.antt: when an object is touched, and where a text ends.
+use mathlib.Core.Path.{_≡_, sym, _∙_}
 use mathlib.Core.Bool.{Bool, true, false}
 use mathlib.Core.List.{List}
 use Prim.Native.Nat.{ℕ, _+_, _-_, _%_, _≤_, _<_}
 use native.Mathlib.Nat.{add-sub-cancel-left}
 use native.Mathlib.Omega.{arith}
-use borrow.Author.Tests.{eq-eqb, ne-eqb, le-leb, lt-leb, leb-true, eqb-false}
+use borrow.Author.Tests.{eq-eqb, ne-eqb, le-leb, lt-leb, leb-true, eqb-true, eqb-false}
 use lib.ListN.{length}
 use lib.Dec.{eqb, leb}
 use Rattle.words.specs.Words.{firstIn}
-use Rattle.words.proofs.Laws.{bool-cases, first-low, first-high}
+use Rattle.words.proofs.Laws.{bool-cases, clash, first-low, first-high}
 use Rattle.layout.specs.declared.text.Span.the-variants.{Bytes, Broken}
 use Rattle.layout.specs.Layout.{dataSize, touch, textIn}
 
@@ -28,7 +28,13 @@ module _ (area : List ℕ) (size at : ℕ) where
   touch-in h =
       bool-cases (leb (at + size) (dataSize area))
       (λ e. leb-true (at + size) (dataSize area) e)
-      (λ e. let z : _≡_ {A = Bool} false true = rw e at h in absurd (let q : _≡_ {A = ℕ} 0 1 = cc in omega arith))
+      (λ e. let z : _≡_ {A = Bool} false true = rw e at h in clash cc)
+
+-- what is touched lies within the area, at a multiple of 4
+pub touch-says : (area : List ℕ) (size at : ℕ) → touch area size at ≡ true → (at + size ≤ dataSize area) × (at % 4 ≡ 0)
+touch-says area size at t =
+    let h : at + size ≤ dataSize area = touch-in area size at t in
+    (h, eqb-true (at % 4) 0 (sym (touch-lies area size at h) ∙ t))
 
 -- ---- text
 module _ (area : List ℕ) (from size : ℕ) where
@@ -61,7 +67,7 @@ text-stands area place size from to h =
     let z = firstIn 0 area place size in
     bool-cases (leb (place + size) (length area))
     (λ e. bool-cases (eqb z (place + size))
-    (λ f. let k : Broken ≡ Bytes from to = rw (e, f) at h in absurd (let q : _≡_ {A = ℕ} 0 1 = cc in omega arith))
+    (λ f. let k : Broken ≡ Bytes from to = rw (e, f) at h in clash cc)
     (λ f.
     let k : Bytes place z ≡ Bytes from to = rw (e, f) at h in
     let p : place ≡ from = cc in
@@ -72,4 +78,4 @@ text-stands area place size from to h =
       high = omega (arith, first-high 0 area place size, eqb-false z (place + size) f);
       within = leb-true _ _ e;
     }))
-    (λ e. let k : Broken ≡ Bytes from to = rw e at h in absurd (let q : _≡_ {A = ℕ} 0 1 = cc in omega arith))
+    (λ e. let k : Broken ≡ Bytes from to = rw e at h in clash cc)

@@ -1,10 +1,11 @@
--- Layout (document 01): the one place of the numbers; touching; the words of records; text up to its zero.
-use Prim.Native.Nat.{ℕ, _+_, _-_, _%_, _^_, _≤_}
+-- Layout (document 01): the one place of sizes, offsets and limits; touching; the words of records; text up to its zero.
+use Prim.Native.Nat.{ℕ, _+_, _-_, _%_, _≤_}
 use mathlib.Core.Bool.{Bool, cond, _&&_}
 use mathlib.Core.List.{List, [], _∷_}
 use lib.ListN.{length}
 use lib.Dec.{eqb, leb}
 use Rattle.words.specs.Words.{littleAt, roundUp4, firstIn}
+use Rattle.layout.specs.Refusals.{guard}
 use Rattle.layout.specs.declared.text.Span.{Span}
 use Rattle.layout.specs.declared.text.Span.the-variants.{Bytes, Broken}
 
@@ -15,18 +16,27 @@ wordSize = 4
 abbrev pub wordMax : ℕ
 wordMax = 4294967295
 
--- ---- header: 128 bytes, used at 0, magic at 8, version at 12; an area has 128 to 131,072 bytes
+-- ---- header: 128 bytes, used at 0, serial at 4, magic at 8, version at 12, 28 reserved words at 16; an area has 128 to 131,072 bytes
 abbrev pub headerSize : ℕ
 headerSize = 128
 
 abbrev pub usedField : ℕ
 usedField = 0
 
+abbrev pub areaSerialField : ℕ
+areaSerialField = 4
+
 abbrev pub magicField : ℕ
 magicField = 8
 
+abbrev pub magicSize : ℕ
+magicSize = 4
+
 abbrev pub versionField : ℕ
 versionField = 12
+
+abbrev pub reservedField : ℕ
+reservedField = 16
 
 abbrev pub areaMin : ℕ
 areaMin = headerSize
@@ -83,14 +93,7 @@ abbrev pub messageLength : ℕ
 messageLength = 50
 
 abbrev pub longOffsetField : ℕ
-longOffsetField = 60
-
--- ---- serial: bit 16 says long, the top byte holds a length
-abbrev pub longBit : ℕ
-longBit = 2 ^ 16
-
-abbrev pub lengthUnit : ℕ
-lengthUnit = 2 ^ 24
+longOffsetField = messageField + messageSize
 
 -- ---- data bytes 0 to 19 are the root node, 20 to 111 the backup slot
 abbrev pub rootAt : ℕ
@@ -161,4 +164,4 @@ abbrev pub textTo : ℕ → ℕ → ℕ → Span
 textTo from to end = cond (eqb to end) Broken (Bytes from to)
 
 unfoldable pub textIn : List ℕ → ℕ → ℕ → Span
-textIn area from size = cond (leb (from + size) (length area)) (textTo from (firstIn 0 area from size) (from + size)) Broken
+textIn area from size = guard (leb (from + size) (length area)) Broken (textTo from (firstIn 0 area from size) (from + size))

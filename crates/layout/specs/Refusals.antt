@@ -1,21 +1,21 @@
 -- Numbers of refusal (document 01), and what a call answers with.
 use Prim.Native.Nat.{ℕ}
+use mathlib.Core.Bool.{Bool, cond}
 use mathlib.Core.List.{List}
 use Rattle.layout.specs.declared.refusal.Verdict.{Verdict}
 use Rattle.layout.specs.declared.refusal.Refusal.{Refusal}
-use Rattle.layout.specs.declared.refusal.Refusal.the-variants.{ZeroByte, EmptySegment, Missing, NoRoom, Damaged, TooLong, LongEntry, BadHeader, TooLarge, ShortBuffer}
 
 abbrev pub numberOf : Refusal → ℕ
-numberOf ZeroByte = 1
-numberOf EmptySegment = 2
-numberOf Missing = 3
-numberOf NoRoom = 4
-numberOf Damaged = 5
-numberOf TooLong = 6
-numberOf LongEntry = 7
-numberOf BadHeader = 8
-numberOf TooLarge = 9
-numberOf ShortBuffer = 10
+numberOf Refusal.ZeroByte = 1
+numberOf Refusal.EmptySegment = 2
+numberOf Refusal.Missing = 3
+numberOf Refusal.NoRoom = 4
+numberOf Refusal.Damaged = 5
+numberOf Refusal.TooLong = 6
+numberOf Refusal.LongEntry = 7
+numberOf Refusal.BadHeader = 8
+numberOf Refusal.TooLarge = 9
+numberOf Refusal.ShortBuffer = 10
 
 -- a refusal returns its number only
 pub data Answer (A : Type 0) : Type 0 where
@@ -24,6 +24,15 @@ pub data Answer (A : Type 0) : Type 0 where
 
 abbrev pub refuse : {A : Type 0} → Refusal → Answer A
 refuse why = refused (numberOf why)
+
+-- what was accepted, made into something else; a refusal stays
+abbrev pub onAccepted : {A B : Type 0} → (A → B) → Answer A → Answer B
+onAccepted f (accepted a) = accepted (f a)
+onAccepted f (refused number) = refused number
+
+-- a test and its refusal, then what follows: `guard` where the test says what must hold, `cond` where it says what is refused
+abbrev pub guard : {A : Type 0} → Bool → A → A → A
+guard holds refusing on = cond holds on refusing
 
 -- a call that answers with a number alone gives 0 for accepted
 abbrev pub noRefusal : ℕ
@@ -35,7 +44,13 @@ verdictNumber (Verdict.Refused why) = numberOf why
 
 -- that number, and the lent bytes afterwards
 pub data Outcome : Type 0 where
-  leaves : ℕ → List ℕ → Outcome
+  leaves : (number : ℕ) (bytes : List ℕ) → Outcome
+
+abbrev pub numberIn : Outcome → ℕ
+numberIn (leaves number bytes) = number
+
+abbrev pub bytesIn : Outcome → List ℕ
+bytesIn (leaves number bytes) = bytes
 
 abbrev pub acceptLeaving : List ℕ → Outcome
 acceptLeaving bytes = leaves noRefusal bytes

@@ -12,11 +12,19 @@ impl Header {
 
     pub const USED: usize = 0;
 
+    pub const SERIAL: usize = 4;
+
     pub const MAGIC: usize = 8;
+
+    pub const MAGIC_SIZE: usize = 4;
+
+    pub const PROP_AREA_MAGIC: [u8; Header::MAGIC_SIZE] = *b"PROP";
 
     pub const VERSION: usize = 12;
 
     pub const PROP_AREA_VERSION: u32 = 0xfc6e_d0ab;
+
+    pub const RESERVED: usize = 16;
 
     pub const AREA_MIN: usize = Header::SIZE;
 
@@ -44,6 +52,9 @@ pub struct Node {
 }
 
 impl Node {
+    // The root's offset: it stands first.
+    pub const ROOT: usize = 0;
+
     pub const SIZE: usize = 20;
 
     pub const NAMELEN: usize = 0;
@@ -115,10 +126,12 @@ impl Entry {
 
     pub const MESSAGE: usize = 4;
 
+    pub const MESSAGE_SIZE: usize = 56;
+
     // How many bytes of it are not zero.
     pub const MESSAGE_LENGTH: u32 = 50;
 
-    pub const LONG_OFFSET: usize = 60;
+    pub const LONG_OFFSET: usize = Entry::MESSAGE + Entry::MESSAGE_SIZE;
 
     // Whether the entry lies within the area, at a multiple of 4.
     pub fn touched(self, area: &[u8]) -> bool

@@ -6,9 +6,9 @@ fn print(text: &[u8]) {
     io::write_all(STDOUT_FILENO, text);
 }
 
-fn show(area: &[u8], names: &[u8]) {
+fn show(file: &[u8], names: &[u8]) {
     print(b"-- ");
-    print(area);
+    print(file);
     print(b" ");
     print(names);
     print(b"\n");
@@ -17,7 +17,7 @@ fn show(area: &[u8], names: &[u8]) {
         print(b"no input\n");
         return;
     }
-    programs::lookup_file(area, input);
+    programs::lookup_file(file, input);
     libc::close(input);
 }
 

@@ -11,7 +11,7 @@ use lib.ListN.{length, getD, drop, drop-of-length-le}
 use lib.Seq.{drop-cons, take-nil}
 use lib.Dec.{eqb, ltb, leb}
 use Rattle.words.specs.Words.{firstIn, part}
-use Rattle.words.proofs.Laws.{bool-cases, first-low, first-high}
+use Rattle.words.proofs.Laws.{bool-cases, clash, first-low, first-high}
 use Rattle.names.specs.declared.Order.the-variants.{Less, Equal, Greater}
 use Rattle.names.specs.declared.NameCursor.{NameCursor}
 use Rattle.names.specs.declared.NameStep.the-variants.{Segment, Done}
@@ -64,7 +64,7 @@ step-done name at h =
     bool-cases (ltb (length name) at)
     (λ e. rw (lt-leb at (length name) (ltb-true _ _ e)))
     (λ e. let k : segmentTo at (firstIn dot name at (length name - at)) ≡ Done = rw e at h in
-    absurd (let q : _≡_ {A = ℕ} 0 1 = cc in omega arith))
+    clash cc)
 
 -- or the next one, where it lies, and that the cursor moves on
 pub record Stepped (name : List ℕ) (at from to : ℕ) (next : NameCursor) : Type 0 where
@@ -79,7 +79,7 @@ pub step-segment : (name : List ℕ) (at from to : ℕ) (next : NameCursor) → 
 unfolding stepFrom segmentsFrom
 step-segment name at from to next h =
     bool-cases (ltb (length name) at)
-    (λ e. let k : Done ≡ Segment from to next = rw e at h in absurd (let q : _≡_ {A = ℕ} 0 1 = cc in omega arith))
+    (λ e. let k : Done ≡ Segment from to next = rw e at h in clash cc)
     (λ e.
     let z = firstIn dot name at (length name - at) in
     let k : segmentTo at z ≡ Segment from to next = rw e at h in

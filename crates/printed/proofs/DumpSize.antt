@@ -10,7 +10,7 @@ use Rattle.layout.specs.Layout.{slotSize}
 use Rattle.sound.specs.Tree.{Value, short, long, Entry, bare, entry, Tree, leaf, node, listed}
 use Rattle.sound.specs.Sound.{ValueAt, EntryAt, TreeAt}
 use Rattle.sound.proofs.Counting.{valueTaken, entryTaken, taken, taken-few}
-use Rattle.finding.specs.Look.{shows}
+use Rattle.finding.specs.Look.{valueText}
 use Rattle.audit.specs.Check.{usedOf, Judged, sound, unsound}
 use Rattle.texts.specs.Text.{digitsMax}
 use Rattle.texts.proofs.Promises.{escaped-few, decimal-few}
@@ -19,8 +19,8 @@ use Rattle.printed.specs.Printed.{ownLine, treeLines, judgedDump, fileDu
 use Rattle.printed.proofs.Sizes.{refused-small, file-fits}
 
 -- ---- a line: what a value shows is at most its slot, or its text
-shows-few : (area : List ℕ) (at : ℕ) (value : Value) → ValueAt area at value → length (shows value) ≤ slotSize + valueTaken value
-unfolding ValueAt shows
+shows-few : (area : List ℕ) (at : ℕ) (value : Value) → ValueAt area at value → length (valueText value) ≤ slotSize + valueTaken value
+unfolding ValueAt valueText
 shows-few area at (short slot) holds = omega (arith, holds .1, length-take (firstIn 0 slot 0 (length slot)) slot)
 shows-few area at (long far text) holds = omega arith
 
@@ -28,7 +28,7 @@ line-few : (area : List ℕ) (own : Entry) → EntryAt area own → length (ownL
 unfolding EntryAt ownLine
 line-few area bare holds = omega arith
 line-few area (entry at serial name value) holds =
-    simp length-append (omega (arith, escaped-few name, escaped-few (shows value), shows-few area at value (holds .2)))
+    simp length-append (omega (arith, escaped-few name, escaped-few (valueText value), shows-few area at value (holds .2)))
 
 lines-few : (area : List ℕ) (tree : Tree) → TreeAt area tree → length (treeLines tree) ≤ 4 * taken tree
 unfolding TreeAt treeLines taken

@@ -12,7 +12,7 @@ use Rattle.words.specs.Words.{put}
 use Rattle.words.proofs.Laws.{bool-cases}
 use Rattle.layout.specs.Layout.{wordSize}
 use Rattle.layout.specs.Refusals.{Answer}
-use Rattle.property_area.specs.Header.{headerOk}
+use Rattle.trie.specs.Header.{headerOk}
 use Rattle.sound.specs.Tree.{listed}
 use Rattle.audit.specs.Check.{usedOf, Judged, sound, unsound, Listing, lists, surveySteps, listSteps}
 use Rattle.audit.proofs.Promises.{list-accepts, listed-few}

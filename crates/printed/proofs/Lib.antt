@@ -3,4 +3,5 @@ pub mod Sizes
 pub mod DumpSize
 pub mod Dumping
 pub mod Serving
+pub mod Whole
 pub mod Promises

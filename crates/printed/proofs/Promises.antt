@@ -1,77 +1,95 @@
--- What is printed, where the buffers are as large as the programs': the texts stand in the output whole. A turn's text, the last line's, the file's dump;
--- over a run of turns all texts together are the text of the whole input (`served`).
+-- What is printed: the dump tells the tree; texts have room in the output, so they stand there whole; and over all turns what the lookup says is the text of its whole
+-- input. The proofs stand in TreeLines, Sizes, DumpSize, Dumping, Serving and Whole.
 use Prim.Native.Nat.{ℕ, _+_, _*_, _≤_, _<_}
-use mathlib.Core.Path.{_≡_, refl, sym, _∙_}
-use mathlib.Core.Bool.{true, false}
-use mathlib.Core.List.{List, [], _++_, append-assoc}
+use mathlib.Core.Path.{_≡_, sym, _∙_}
+use mathlib.Core.List.{List, _++_}
 use native.Mathlib.Omega.{arith}
-use lib.Dec.{eqb}
 use lib.ListN.{length, take, drop}
-use Rattle.words.proofs.Laws.{bool-cases}
-use Rattle.audit.specs.Check.{Judged, Listing, lists}
-use Rattle.sound.specs.Sound.{Without}
-use Rattle.texts.specs.Text.{Fed, fed, feed, saying, said, lineFeed}
-use Rattle.texts.proofs.Laws.{said-none}
-use Rattle.texts.proofs.Promises.{said-stands}
-use Rattle.answers.specs.Answers.{fileMax, nameMax, textMax, answerText, dumpText, dumps, dumpListing, fileListing, dumpSteps}
+use Rattle.layout.specs.Refusals.{Answer}
+use Rattle.sound.specs.Tree.{Tree, listed}
+use Rattle.sound.specs.Sound.{Without, Sound}
+use Rattle.audit.specs.Check.{Judged, lists}
+use Rattle.texts.specs.Text.{Said, feed, saying, said, lineFeed}
+use Rattle.answers.specs.Answers.{fileMax, nameMax, textMax, answerText, entryLines, dumpText, fileListing, DumpSays}
 use Rattle.answers.specs.Lines.{lookupText, turned, turnSteps, endSteps}
-use Rattle.printed.specs.Printed.{fileDump, fedText, fedHeld, fedNext, endText}
-use Rattle.printed.proofs.Sizes.{answer-small}
-use Rattle.printed.proofs.DumpSize.{dump-small}
-use Rattle.printed.proofs.Dumping.{entriesMax, dump-prints}
-use Rattle.printed.proofs.Serving.{turn-serves, turn-holds, turn-says, end-serves}
+use Rattle.printed.specs.Printed.{treeLines, fileDump, fedText, fedHeld, fedNext, endText, Served, joined}
+use Rattle.printed.proofs.TreeLines as treeLaws
+use Rattle.printed.proofs.Sizes as sizes
+use Rattle.printed.proofs.DumpSize as dumpSize
+use Rattle.printed.proofs.Dumping as dumping
+use dumping.{entriesMax}
+use Rattle.printed.proofs.Serving as serving
+use Rattle.printed.proofs.Whole as whole
 
--- ---- the lookup
-fed-small : (area : List ℕ) (got : Fed) → length (fedText area got) ≤ textMax
-fed-small area (fed (saying have line) next true) = answer-small area (take have line)
-fed-small area (fed (saying have line) next false) = omega arith
+-- ---- the lines of the entries that a sound area lists are the lines of its tree
+pub tree-lines : (area : List ℕ) (used : ℕ) (tree : Tree) → Sound area used tree → entryLines area (listed tree) ≡ treeLines tree
+tree-lines = treeLaws.tree-lines
 
+-- ---- no answer and no dump is longer than textMax
+pub answer-small : (area name : List ℕ) → length (answerText area name) ≤ textMax
+answer-small = sizes.answer-small
+
+pub dump-small : (area : List ℕ) (judged : Judged area) → length (fileDump area judged) ≤ textMax
+dump-small = dumpSize.dump-small
+
+-- ---- with scratch and list large enough for the longest file, what is printed of a listing is the file's dump
+pub dump-prints : (area scratch list : List ℕ) → fileMax ≤ 4 * length scratch → entriesMax ≤ length list → (judged : Judged area) (answer : Answer ℕ) (left noted : List ℕ)
+    → lists answer left noted ≡ fileListing area scratch list judged → dumpText area answer noted ≡ fileDump area judged
+dump-prints = dumping.dump-prints
+
+-- ---- where the output is large enough too, the dump stands there whole
+pub dump-whole : (area scratch list out : List ℕ) (told : ℕ) (after left noted : List ℕ)
+    → DumpSays area scratch list out told after left noted
+    → fileMax ≤ 4 * length scratch → entriesMax ≤ length list → textMax ≤ length out → (judged : Judged area) → take told after ≡ fileDump area judged
+dump-whole = whole.dump-whole
+
+-- ---- a name that is cut above the limit is answered like the whole name
+pub answer-cut : (area name : List ℕ) (k : ℕ) → nameMax < k → answerText area (take k name) ≡ answerText area name
+answer-cut = serving.answer-cut
+
+-- ---- what is held and left to read has the turn's text, then that of what is held and left afterwards; no line feed is held
+pub turn-serves : (area input line : List ℕ) (from have : ℕ) → nameMax < length line → from ≤ length input → have ≤ length line
+    → Without lineFeed (take have line) → (later : List ℕ)
+    → lookupText area (take have line ++ (drop from input ++ later))
+    ≡ fedText area (feed input from line have) ++ lookupText area (fedHeld (feed input from line have) ++ (drop (fedNext (feed input from line have)) input ++ later))
+turn-serves = serving.turn-serves
+
+pub turn-holds : (input line : List ℕ) (from have : ℕ) → from ≤ length input → have ≤ length line
+    → Without lineFeed (take have line) → Without lineFeed (fedHeld (feed input from line have))
+turn-holds = serving.turn-holds
+
+-- ---- what `turn` says, and what the line and the input are then
+pub turn-says : (area input line out : List ℕ) (from have at has next : ℕ) (grown : List ℕ) (s : Said) → at ≤ length out
+    → turned has next grown s ≡ turnSteps area input from line have out at
+    → (s ≡ said out at (fedText area (feed input from line have))) × (take has grown ≡ fedHeld (feed input from line have)) × (next ≡ fedNext (feed input from line have))
+turn-says = serving.turn-says
+
+-- ---- where the output is large enough a turn's text stands there whole
 pub turn-whole : (area input : List ℕ) (from : ℕ) (line : List ℕ) (have : ℕ) (out : List ℕ) (at has next : ℕ) (grown : List ℕ) (told : ℕ) (after : List ℕ)
     → turned has next grown (saying told after) ≡ turnSteps area input from line have out at → at + textMax ≤ length out
     → take told after ≡ take at out ++ fedText area (feed input from line have)
-turn-whole area input from line have out at has next grown told after e room =
-    let small = fed-small area (feed input from line have) in
-    let says = turn-says area input line out from have at has next grown (saying told after) (omega arith) e .0 in
-    said-stands out at (fedText area (feed input from line have)) told after says (omega arith) .1
+turn-whole = whole.turn-whole
 
--- so what was said and is still owed stays the same over a turn, whatever input comes later; and no line feed is held
+-- ---- so what was said and is still owed stays the same over a turn, whatever input comes later; and no line feed is held
 module _ (area input : List ℕ) (from : ℕ) (line : List ℕ) (have : ℕ) (out : List ℕ) (at has next : ℕ) (grown : List ℕ) (told : ℕ) (after : List ℕ)
     (e : turned has next grown (saying told after) ≡ turnSteps area input from line have out at) (room : at + textMax ≤ length out)
     (f : from ≤ length input) (h : have ≤ length line) (w : Without lineFeed (take have line)) where
   pub turn-goes : nameMax < length line → (later : List ℕ)
       → take at out ++ lookupText area (take have line ++ (drop from input ++ later)) ≡ take told after ++ lookupText area (take has grown ++ (drop next input ++ later))
-  turn-goes long later =
-      let says = turn-says area input line out from have at has next grown (saying told after) (omega arith) e in
-      let text : List ℕ = fedText area (feed input from line have) in
-      rw (turn-serves area input line from have long f h w later, turn-whole area input from line have out at has next grown told after e room, says .1, says .2)
-      (sym (append-assoc (take at out) text (lookupText area (fedHeld (feed input from line have) ++ (drop (fedNext (feed input from line have)) input ++ later)))))
+  turn-goes = whole.turn-goes area input from line have out at has next grown told after e room f h w
 
   pub turn-clean : Without lineFeed (take has grown)
-  turn-clean =
-      let says = turn-says area input line out from have at has next grown (saying told after) (omega arith) e in
-      rw (says .1) (turn-holds input line from have f h w)
+  turn-clean = rw (turn-says area input line out from have at has next grown (saying told after) (omega arith) e .1) (turn-holds input line from have f h w)
 
-end-said : (area held out : List ℕ) (told : ℕ) (after : List ℕ) → saying told after ≡ endSteps area held out 0 → textMax ≤ length out → take told after ≡ endText area held
-unfolding endSteps
-end-said area held out told after e room =
-    bool-cases (eqb (length held) 0)
-    (λ t. rw t (said-stands out 0 [] told after (rw t at e ∙ said-none out 0 (omega arith)) (omega arith) .1))
-    (λ t. rw t (said-stands out 0 (answerText area held) told after (rw t at e) (omega (arith, answer-small area held)) .1))
+-- ---- at the input's end what is held is answered, and where the output is large enough that stands there whole
+pub end-serves : (area held : List ℕ) → Without lineFeed held → lookupText area held ≡ endText area held
+end-serves = serving.end-serves
 
--- at the end what is owed is said
 pub end-whole : (area held out : List ℕ) (told : ℕ) (after : List ℕ) → saying told after ≡ endSteps area held out 0 → textMax ≤ length out → Without lineFeed held
     → take told after ≡ lookupText area held
-end-whole area held out told after e room w = end-said area held out told after e room ∙ sym (end-serves area held w)
+end-whole area held out told after e room w = whole.end-said area held out told after e room ∙ sym (end-serves area held w)
 
--- ---- the dump
-pub dump-whole : (area scratch list out : List ℕ) (told : ℕ) (after left noted : List ℕ)
-    → ((judged : Judged area) → dumps (saying told after) left noted ≡ dumpSteps area scratch list out judged)
-    → fileMax ≤ 4 * length scratch → entriesMax ≤ length list → textMax ≤ length out → (judged : Judged area) → take told after ≡ fileDump area judged
-dump-whole area scratch list out told after left noted e room many fits judged = by (fileListing area scratch list judged) refl (e judged)
-  where
-    by : (listing : Listing) → fileListing area scratch list judged ≡ listing → dumps (saying told after) left noted ≡ dumpListing area out listing
-        → take told after ≡ fileDump area judged
-    by (lists answer l n) is q =
-        let text : dumpText area answer n ≡ fileDump area judged = dump-prints area scratch list room many judged answer l n (sym is) in
-        let says : saying told after ≡ said out 0 (dumpText area answer n) = cc in
-        said-stands out 0 (fileDump area judged) told after (rw text at says) (omega (arith, dump-small area judged)) .1
+-- ---- over a run of turns, from what is held to the input's end, all that is said is the text of the whole input
+pub served : (area held : List ℕ) (pieces : List (List ℕ)) (text : List ℕ) → Without lineFeed held → Served area held pieces text
+    → text ≡ lookupText area (held ++ joined pieces)
+served = serving.served

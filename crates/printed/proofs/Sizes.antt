@@ -9,11 +9,10 @@ use lib.Dec.{leb}
 use lib.ListN.{length, length-append}
 use Rattle.words.specs.Words.{part}
 use Rattle.words.proofs.Laws.{bool-cases, part-length}
-use Rattle.layout.specs.Refusals.{Answer, accepted, refused}
-use Rattle.property_area.specs.declared.values.Shown.{Shown}
-use Rattle.property_area.specs.Header.{headerOk}
-use Rattle.property_area.specs.Value.{Part, bytes}
-use Rattle.property_area.specs.Lookup.{shownPart}
+use Rattle.layout.specs.Refusals.{Answer, accepted, refused, onAccepted}
+use Rattle.property_area.specs.declared.values.ValuePart.{ValuePart}
+use Rattle.trie.specs.Header.{headerOk}
+use Rattle.property_area.specs.Value.{Part, bytes, partBytes}
 use Rattle.texts.specs.Text.{escaped, digitsMax, decimal}
 use Rattle.texts.proofs.Promises.{escaped-few, decimal-few}
 use Rattle.answers.specs.Answers.{fileMax, textMax, ending, refusedText, fileOk, askSteps, answerLine, answerText}
@@ -32,8 +31,8 @@ unfolding answerText askSteps
 answer-small area name =
     bool-cases (fileOk area) (λ ok. by (file-fits area ok) (askSteps area name) refl) (λ no. rw no (refused-small _))
   where
-    by : length area ≤ fileMax → (answer : Answer Part) → answer ≡ askSteps area name → length (answerLine (shownPart area answer)) ≤ textMax
+    by : length area ≤ fileMax → (answer : Answer Part) → answer ≡ askSteps area name → length (answerLine (onAccepted (partBytes area) answer)) ≤ textMax
     by few (refused number) e = refused-small number
     by few (accepted (bytes from to)) e =
-        let lies = ask-in area name (Shown.Bytes from to) e from to refl in
+        let lies = ask-in area name (ValuePart.Bytes from to) e from to refl in
         omega (arith, length-append (escaped (part area from to)) ending, escaped-few (part area from to), part-length area from to (lies .low) (lies .high), lies .high)

@@ -4,11 +4,11 @@ use mathlib.Core.Path.{_≡_, refl, sym}
 use mathlib.Core.Bool.{true}
 use mathlib.Core.List.{List, [], _∷_, _++_, append-assoc, append-nil}
 use Rattle.names.specs.Names.{dot}
-use Rattle.property_area.specs.Header.{headerOk}
+use Rattle.trie.specs.Header.{headerOk}
 use Rattle.property_info.specs.Entry.{nameOf, valueOf}
 use Rattle.sound.specs.Tree.{Entry, bare, entry, Tree, leaf, node, listedOwn, listed}
 use Rattle.sound.specs.Sound.{Sound}
-use Rattle.finding.specs.Look.{shows}
+use Rattle.finding.specs.Look.{valueText}
 use Rattle.finding.proofs.NodeReads.{Standing, stands-whole, stands-left, stands-below, stands-right}
 use Rattle.finding.proofs.Spelling.{ownOf}
 use Rattle.finding.proofs.ValueReads.{part-shown, own-reads}
@@ -28,7 +28,7 @@ module _ (area : List ℕ) (used : ℕ) (header : headerOk area ≡ true) where
   own-lines prefix tree (entry at serial name value) stands is =
       let read = own-reads area used prefix tree at serial name value stands is in
       let named = part-shown area at (nameOf area at) name header (read .0) (read .2) in
-      let valued = part-shown area at (valueOf area at) (shows value) header (read .0) (read .1) in
+      let valued = part-shown area at (valueOf area at) (valueText value) header (read .0) (read .1) in
       rw (named .3, valued .3) (append-nil _)
 
   standing-lines : (prefix : List ℕ) (tree : Tree) → Standing area used prefix tree → entryLines area (listed tree) ≡ treeLines tree

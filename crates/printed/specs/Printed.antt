@@ -5,9 +5,9 @@ use mathlib.Core.List.{List, [], _∷_, _++_}
 use lib.ListN.{length, take, drop}
 use lib.Dec.{eqb}
 use Rattle.layout.specs.declared.refusal.Refusal.{Refusal}
-use Rattle.layout.specs.Refusals.{numberOf}
+use Rattle.layout.specs.Refusals.{guard, numberOf}
 use Rattle.sound.specs.Tree.{Entry, bare, entry, Tree, leaf, node, listed}
-use Rattle.finding.specs.Look.{shows}
+use Rattle.finding.specs.Look.{valueText}
 use Rattle.audit.specs.Check.{usedOf, Judged, sound, unsound}
 use Rattle.texts.specs.Text.{escaped, saying, Fed, fed, feed}
 use Rattle.answers.specs.Answers.{nameMax, opening, between, closing, refusedText, fileOk, answerText, headText}
@@ -15,7 +15,7 @@ use Rattle.answers.specs.Answers.{nameMax, opening, between, closing, refusedTe
 -- ---- the lines of a tree's entries, in listing order
 unfoldable pub ownLine : Entry → List ℕ
 ownLine bare = []
-ownLine (entry at serial name value) = opening ++ escaped name ++ between ++ escaped (shows value) ++ closing
+ownLine (entry at serial name value) = opening ++ escaped name ++ between ++ escaped (valueText value) ++ closing
 
 unfoldable pub treeLines : Tree → List ℕ
 treeLines leaf = []
@@ -27,7 +27,7 @@ judgedDump area (sound tree is) = headText (length (listed tree)) (usedOf area) 
 judgedDump area (unsound none) = refusedText (numberOf Refusal.Damaged)
 
 abbrev pub fileDump : (area : List ℕ) → Judged area → List ℕ
-fileDump area judged = cond (fileOk area) (judgedDump area judged) (refusedText (numberOf Refusal.BadHeader))
+fileDump area judged = guard (fileOk area) (refusedText (numberOf Refusal.BadHeader)) (judgedDump area judged)
 
 -- ---- what a turn says, what is then held of the next line, and where the input goes on
 abbrev pub fedText : List ℕ → Fed → List ℕ

@@ -44,10 +44,10 @@ fn print(text: &[u8]) {
 }
 
 // Reads a file into the start of a buffer, and answers how many bytes. A file that cannot be read counts as empty; of a longer one there are as many bytes as the buffer has.
-fn load(name: &[u8], buf: &mut [u8]) -> usize
+fn load(file: &[u8], buf: &mut [u8]) -> usize
     ensures { λ r. ⌜ Counts r (now (buf .exit)) ⌝ }
 {
-    let fd = os::open_read(name);
+    let fd = os::open_read(file);
     if fd < 0 {
         return 0;
     }
@@ -76,9 +76,9 @@ fn print_dump(area: &[u8]) {
 }
 
 // Prints the dump of a file.
-pub fn dump_file(name: &[u8]) {
+pub fn dump_file(file: &[u8]) {
     let mut space = [0u8; FILE_SPACE];
-    let size = load(name, &mut space);
+    let size = load(file, &mut space);
     print_dump(&space[..size]);
 }
 
@@ -207,9 +207,9 @@ fn print_answers(area: &[u8], input: i32) {
 }
 
 // Prints a file's answer to each name of an input, given by its descriptor.
-pub fn lookup_file(name: &[u8], input: i32) {
+pub fn lookup_file(file: &[u8], input: i32) {
     let mut space = [0u8; FILE_SPACE];
-    let size = load(name, &mut space);
+    let size = load(file, &mut space);
     print_answers(&space[..size], input);
 }
 

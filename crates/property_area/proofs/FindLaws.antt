@@ -12,11 +12,12 @@ use Rattle.names.proofs.Laws.{segmentsFrom, segments-whole}
 use Rattle.layout.specs.declared.refusal.Refusal.{Refusal}
 use Rattle.layout.specs.Layout.{rootAt, propField, nodeOk, entryOk, wordAt}
 use Rattle.layout.specs.Refusals.{Answer, accepted, refuse}
-use Rattle.property_area.proofs.trie.Searched.{the-type}
-use Rattle.property_area.specs.declared.trie.Searched.{Searched}
-use Rattle.property_area.specs.Header.{headerOk}
-use Rattle.property_area.specs.Trie.{segmentSteps}
-use Rattle.property_area.specs.Find.{Hit, hit, countLimit, propSteps, bySearch, refusedBy, findFrom, findSteps}
+use Rattle.trie.proofs.trie.Searched.{the-type}
+use Rattle.trie.specs.declared.trie.Searched.{Searched}
+use Rattle.trie.specs.Header.{headerOk}
+use Rattle.trie.specs.Trie.{segmentSteps}
+use Rattle.property_area.specs.Find.{Hit, hit, countLimit, propSteps, bySearch, findFrom, findSteps}
+use Rattle.property_area.specs.View.{refusedBy}
 
 -- ---- after the last segment: offset is the node's prop
 module _ (area : List ℕ) (node n : ℕ) where

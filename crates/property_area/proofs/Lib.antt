@@ -1,6 +1,5 @@
-pub mod HeaderLaws
-pub mod TrieLaws
-pub mod LinkLaws
 pub mod FindLaws
 pub mod ValueLaws
+pub mod BackupLaws
+pub mod AnswerLaws
 pub mod Promises

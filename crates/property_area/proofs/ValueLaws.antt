@@ -6,7 +6,7 @@ use Prim.Native.Nat.{ℕ, _≤_}
 use native.Mathlib.Omega.{arith}
 use lib.ListN.{length}
 use Rattle.words.specs.Words.{part}
-use Rattle.words.proofs.Laws.{bool-cases}
+use Rattle.words.proofs.Laws.{bool-cases, clash}
 use Rattle.layout.specs.declared.refusal.Refusal.{Refusal}
 use Rattle.layout.specs.declared.text.Span.{Span}
 use Rattle.layout.specs.Layout.{areaMax, entrySize, entryOk}
@@ -14,10 +14,10 @@ use Rattle.layout.specs.Refusals.{accepted, refuse}
 use Rattle.layout.proofs.Laws.{touch-in}
 use Rattle.property_info.specs.Entry.{valueOf}
 use Rattle.property_info.proofs.Promises.{value-lies}
-use Rattle.property_area.proofs.HeaderLaws.{header-max}
-use Rattle.property_area.specs.declared.values.Shown.{Shown}
-use Rattle.property_area.specs.Header.{headerOk}
-use Rattle.property_area.specs.Value.{bytes, shownAnswer, bySpan, partSteps, valueSteps, partOf}
+use Rattle.trie.proofs.HeaderLaws.{header-max}
+use Rattle.property_area.specs.declared.values.ValuePart.{ValuePart}
+use Rattle.trie.specs.Header.{headerOk}
+use Rattle.property_area.specs.Value.{bytes, partAnswer, bySpan, partSteps, valueSteps, partOrNone}
 
 module _ (area : List ℕ) (offset : ℕ) (span : Span) where
   pub part-header : headerOk area ≡ false → refuse Refusal.BadHeader ≡ partSteps area offset span
@@ -39,7 +39,7 @@ module _ (area : List ℕ) (offset : ℕ) (span : Span) where
       part-broken f = rw (h, t, ← e, f)
 
 -- ---- a value that is shown is a part of an area that is not too long
-pub record ShownIn (area : List ℕ) (from to : ℕ) : Type 0 where
+pub record PartIn (area : List ℕ) (from to : ℕ) : Type 0 where
   pub low : from ≤ to
   pub high : to ≤ length area
   pub small : length area ≤ areaMax
@@ -49,9 +49,9 @@ span-of (Span.Bytes a b) from to h =
     let p : a ≡ from = cc in
     let q : b ≡ to = cc in
     cc
-span-of Span.Broken from to h = absurd (let q : _≡_ {A = ℕ} 0 1 = cc in omega arith)
+span-of Span.Broken from to h = clash cc
 
-pub accepted-in : (area : List ℕ) (offset from to : ℕ) → valueSteps area offset ≡ accepted (bytes from to) → ShownIn area from to
+pub accepted-in : (area : List ℕ) (offset from to : ℕ) → valueSteps area offset ≡ accepted (bytes from to) → PartIn area from to
 unfolding partSteps
 accepted-in area offset from to e =
     bool-cases (headerOk area)
@@ -60,16 +60,16 @@ accepted-in area offset from to e =
     let k : bySpan (valueOf area offset) ≡ accepted (bytes from to) = rw (h, t) at e in
     let l = value-lies area offset from to (touch-in area entrySize offset t) (span-of (valueOf area offset) from to k) in
     record { low = l .low; high = l .high; small = header-max area h })
-    (λ t. let k : refuse Refusal.Damaged ≡ accepted (bytes from to) = rw (h, t) at e in absurd (let q : _≡_ {A = ℕ} 0 1 = cc in omega arith)))
-    (λ h. let k : refuse Refusal.BadHeader ≡ accepted (bytes from to) = rw h at e in absurd (let q : _≡_ {A = ℕ} 0 1 = cc in omega arith))
+    (λ t. let k : refuse Refusal.Damaged ≡ accepted (bytes from to) = rw (h, t) at e in clash cc))
+    (λ h. let k : refuse Refusal.BadHeader ≡ accepted (bytes from to) = rw h at e in clash cc)
 
 -- ---- for a caller that has the answer in hand: s is what value answered
-module _ (area : List ℕ) (offset : ℕ) (s : Shown) (e : shownAnswer s ≡ valueSteps area offset) where
-  pub shown-in : (from to : ℕ) → s ≡ Shown.Bytes from to → ShownIn area from to
-  shown-in from to f = accepted-in area offset from to (sym e ∙ rw f)
+module _ (area : List ℕ) (offset : ℕ) (s : ValuePart) (e : partAnswer s ≡ valueSteps area offset) where
+  pub part-in : (from to : ℕ) → s ≡ ValuePart.Bytes from to → PartIn area from to
+  part-in from to f = accepted-in area offset from to (sym e ∙ rw f)
 
-  pub bytes-shown : (from to : ℕ) → s ≡ Shown.Bytes from to → part area from to ≡ partOf area (valueSteps area offset)
-  bytes-shown from to f = rw (← e, f)
+  pub value-bytes : (from to : ℕ) → s ≡ ValuePart.Bytes from to → part area from to ≡ partOrNone area (valueSteps area offset)
+  value-bytes from to f = rw (← e, f)
 
-  pub bytes-refused : (why : Refusal) → s ≡ Shown.Refused why → [] ≡ partOf area (valueSteps area offset)
-  bytes-refused why f = rw (← e, f)
+  pub value-refused : (why : Refusal) → s ≡ ValuePart.Refused why → [] ≡ partOrNone area (valueSteps area offset)
+  value-refused why f = rw (← e, f)

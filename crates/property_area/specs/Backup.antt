@@ -6,17 +6,14 @@ use lib.ListN.{length}
 use lib.Dec.{leb, ltb}
 use Rattle.words.specs.Words.{part}
 use Rattle.layout.specs.declared.refusal.Refusal.{Refusal}
-use Rattle.layout.specs.Refusals.{Outcome, acceptLeaving, refuseLeaving}
+use Rattle.layout.specs.Refusals.{guard, Outcome, acceptLeaving, refuseLeaving}
 use Rattle.layout.specs.Layout.{backupAt, backupSize, dataSize, byteOf, placeOf}
-use Rattle.property_area.specs.Header.{headerOk}
+use Rattle.trie.specs.Header.{headerOk}
 
 -- 92 or more bytes wanted: 6; 20 plus the number wanted above data size: 5; else the buffer holds that many slot bytes
 unfoldable pub backupSteps : List ℕ → List ℕ → Outcome
 backupSteps area buffer =
-    cond (headerOk area)
-    (cond (leb backupSize (length buffer))
-    (refuseLeaving buffer Refusal.TooLong)
-    (cond (ltb (dataSize area) (backupAt + length buffer))
-    (refuseLeaving buffer Refusal.Damaged)
+    guard (headerOk area) (refuseLeaving buffer Refusal.BadHeader)
+    (cond (leb backupSize (length buffer)) (refuseLeaving buffer Refusal.TooLong)
+    (cond (ltb (dataSize area) (backupAt + length buffer)) (refuseLeaving buffer Refusal.Damaged)
     (acceptLeaving (part area (byteOf backupAt) (placeOf backupAt (length buffer))))))
-    (refuseLeaving buffer Refusal.BadHeader)

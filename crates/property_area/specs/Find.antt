@@ -5,20 +5,25 @@ use mathlib.Core.List.{List, [], _∷_}
 use lib.Dec.{eqb}
 use Rattle.names.specs.Names.{segments}
 use Rattle.layout.specs.declared.refusal.Refusal.{Refusal}
-use Rattle.layout.specs.Refusals.{Answer, accepted, refuse}
+use Rattle.layout.specs.Refusals.{Answer, accepted, refused, refuse, guard}
 use Rattle.layout.specs.Layout.{rootAt, propField, wordAt, nodeOk, entryOk}
-use Rattle.property_area.specs.Header.{headerOk}
-use Rattle.property_area.specs.Trie.{segmentSteps}
-use Rattle.property_area.specs.declared.trie.Searched.{Searched}
-use Rattle.property_area.specs.declared.lookup.Found.{Found}
+use Rattle.trie.specs.Header.{headerOk}
+use Rattle.trie.specs.Trie.{segmentSteps}
+use Rattle.trie.specs.declared.trie.Searched.{Searched}
+use Rattle.property_area.specs.declared.descent.Found.{Found}
 
 -- the entry's offset and the count of nodes compared over all segments
 pub data Hit : Type 0 where
-  hit : ℕ → ℕ → Hit
+  hit : (offset compared : ℕ) → Hit
 
 -- the count is kept in 64 bits
 abbrev pub countLimit : ℕ
 countLimit = 2 ^ 64
+
+-- what follows find: for the entry's offset, or for the refusal's number
+abbrev pub byHit : {A : Type 0} → (ℕ → A) → (ℕ → A) → Answer Hit → A
+byHit refusing on (accepted (hit offset compared)) = on offset
+byHit refusing on (refused number) = refusing number
 
 -- what each case of the answer means
 abbrev pub foundAnswer : Found → Answer Hit
@@ -31,18 +36,14 @@ bySearch (Searched.Named node compared) on = on node compared
 bySearch (Searched.Absent link compared) on = refuse Refusal.Missing
 bySearch (Searched.Refused why) on = refuse why
 
--- the same where no node is named, as every caller has it
-abbrev pub refusedBy : Searched → Answer Hit
-refusedBy searched = bySearch searched (λ node compared. refuse Refusal.Damaged)
-
 -- after the last segment a zero prop is 3, else the entry is touched
 abbrev pub entrySteps : List ℕ → ℕ → ℕ → Answer Hit
 entrySteps area offset compared =
-    cond (eqb offset 0) (refuse Refusal.Missing) (cond (entryOk area offset) (accepted (hit offset compared)) (refuse Refusal.Damaged))
+    cond (eqb offset 0) (refuse Refusal.Missing) (guard (entryOk area offset) (refuse Refusal.Damaged) (accepted (hit offset compared)))
 
 -- the node is touched before its prop is read
 unfoldable pub propSteps : List ℕ → ℕ → ℕ → Answer Hit
-propSteps area node compared = cond (nodeOk area node) (entrySteps area (wordAt area node propField) compared) (refuse Refusal.Damaged)
+propSteps area node compared = guard (nodeOk area node) (refuse Refusal.Damaged) (entrySteps area (wordAt area node propField) compared)
 
 -- the segments below a node, one below the other
 unfoldable pub findFrom : List ℕ → List (List ℕ) → ℕ → ℕ → Answer Hit
@@ -52,4 +53,4 @@ findFrom area (segment ∷ rest) node compared =
 
 -- 8 first; then the root's children
 unfoldable pub findSteps : List ℕ → List ℕ → Answer Hit
-findSteps area name = cond (headerOk area) (findFrom area (segments name) rootAt 0) (refuse Refusal.BadHeader)
+findSteps area name = guard (headerOk area) (refuse Refusal.BadHeader) (findFrom area (segments name) rootAt 0)

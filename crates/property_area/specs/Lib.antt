@@ -1,6 +1,5 @@
-pub mod Header
-pub mod Trie
 pub mod Find
+pub mod View
 pub mod Value
 pub mod Lookup
 pub mod Backup

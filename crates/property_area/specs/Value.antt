@@ -5,20 +5,23 @@ use mathlib.Core.List.{List, []}
 use Rattle.words.specs.Words.{part}
 use Rattle.layout.specs.declared.refusal.Refusal.{Refusal}
 use Rattle.layout.specs.declared.text.Span.{Span}
-use Rattle.layout.specs.Refusals.{Answer, accepted, refused, refuse}
+use Rattle.layout.specs.Refusals.{Answer, accepted, refused, refuse, guard}
 use Rattle.layout.specs.Layout.{entryOk}
 use Rattle.property_info.specs.Entry.{nameOf, valueOf}
-use Rattle.property_area.specs.Header.{headerOk}
-use Rattle.property_area.specs.declared.values.Shown.{Shown}
+use Rattle.trie.specs.Header.{headerOk}
+use Rattle.property_area.specs.declared.values.ValuePart.{ValuePart}
 
 -- the value is a part of the lent area: where it begins and ends
 pub data Part : Type 0 where
-  bytes : ℕ → ℕ → Part
+  bytes : (from to : ℕ) → Part
+
+abbrev pub partBytes : List ℕ → Part → List ℕ
+partBytes area (bytes from to) = part area from to
 
 -- what each case of the answer means
-abbrev pub shownAnswer : Shown → Answer Part
-shownAnswer (Shown.Bytes from to) = accepted (bytes from to)
-shownAnswer (Shown.Refused why) = refuse why
+abbrev pub partAnswer : ValuePart → Answer Part
+partAnswer (ValuePart.Bytes from to) = accepted (bytes from to)
+partAnswer (ValuePart.Refused why) = refuse why
 
 -- no zero, or less offset: 5
 abbrev pub bySpan : Span → Answer Part
@@ -28,7 +31,7 @@ bySpan Span.Broken = refuse Refusal.Damaged
 -- 8; the entry is touched (5); then a text of it
 unfoldable pub partSteps : List ℕ → ℕ → Span → Answer Part
 partSteps area offset span =
-    cond (headerOk area) (cond (entryOk area offset) (bySpan span) (refuse Refusal.Damaged)) (refuse Refusal.BadHeader)
+    guard (headerOk area) (refuse Refusal.BadHeader) (guard (entryOk area offset) (refuse Refusal.Damaged) (bySpan span))
 
 -- what it shows
 abbrev pub valueSteps : List ℕ → ℕ → Answer Part
@@ -39,6 +42,6 @@ abbrev pub nameSteps : List ℕ → ℕ → Answer Part
 nameSteps area offset = partSteps area offset (nameOf area offset)
 
 -- that part; none where it is refused
-abbrev pub partOf : List ℕ → Answer Part → List ℕ
-partOf area (accepted (bytes from to)) = part area from to
-partOf area (refused number) = []
+abbrev pub partOrNone : List ℕ → Answer Part → List ℕ
+partOrNone area (accepted place) = partBytes area place
+partOrNone area (refused number) = []

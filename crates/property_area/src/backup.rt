@@ -2,11 +2,11 @@
 ghost use mathlib.Core.Path.{_≡_};
 ghost use Rattle.layout.specs.Refusals.{leaves, verdictNumber};
 ghost use Rattle.property_area.specs.Backup.{backupSteps};
-use crate::header::header_ok;
 use layout::Backup;
 use layout::Header;
 use layout::Refusal;
 use layout::Verdict;
+use trie::header_ok;
 
 // Fills the buffer with as many of the slot's bytes as it holds.
 pub fn read_dirty_backup(area: &[u8], buffer: &mut [u8]) -> Verdict

@@ -1,19 +1,14 @@
-// The property area, read: header test, the trie's nodes and the search among them, find, value, an entry's name, the backup slot.
-// The search is exported for the crate that adds names; it tests no header.
+// The property area, read: find, value, an entry's name, the backup slot.
+// Every call tests the header first; the search among nodes stands in the crate trie.
 mod backup;
-mod header;
-mod lookup;
+mod descent;
 mod naming;
-mod trie;
 mod values;
 
 pub use backup::read_dirty_backup;
-pub use header::header_ok;
-pub use lookup::Found;
-pub use lookup::find;
-pub use naming::name_part;
-pub use trie::Searched;
-pub use trie::find_prop_trie_node;
-pub use values::Shown;
+pub use descent::Found;
+pub use descent::find;
+pub use naming::name_bytes;
+pub use values::ValuePart;
 pub use values::value;
-pub use values::value_part;
+pub use values::value_bytes;

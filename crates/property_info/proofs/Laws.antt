@@ -4,14 +4,33 @@ use mathlib.Core.Bool.{true, false}
 use mathlib.Core.List.{List}
 use Prim.Native.Nat.{ℕ, _+_, _-_, _≤_, _<_}
 use native.Mathlib.Omega.{arith}
-use borrow.Author.Tests.{le-leb, lt-leb}
+use borrow.Author.Tests.{eq-eqb, ne-eqb, eqb-true, eqb-false, le-leb, lt-leb}
 use lib.ListN.{length}
 use Rattle.words.specs.Words.{roundUp4}
 use Rattle.layout.specs.declared.text.Span.{Span}
 use Rattle.layout.specs.declared.text.Span.the-variants.{Bytes, Broken}
-use Rattle.layout.specs.Layout.{entrySize, longOffsetField, placeOf, wordAt}
+use Rattle.layout.specs.Layout.{entrySize, serialField, longOffsetField, placeOf, wordAt}
 use Rattle.layout.proofs.Laws.{Stands, text-past, text-stands}
+use Rattle.property_info.specs.Serial.{longIn}
 use Rattle.property_info.specs.Entry.{isLong, shortValue, nameOf, textFrom, longValue, valueOf}
+
+-- ---- long or short, by the serial
+module _ (area : List ℕ) (at serial : ℕ) (e : wordAt area at serialField ≡ serial) where
+  pub long-is : longIn serial ≡ 1 → isLong area at ≡ true
+  unfolding isLong
+  long-is h = rw e (eq-eqb (longIn serial) 1 h)
+
+  pub short-is : longIn serial ≡ 0 → isLong area at ≡ false
+  unfolding isLong
+  short-is h = rw e (ne-eqb (longIn serial) 1 (λ z. omega (arith, z, h)))
+
+  pub long-says : isLong area at ≡ true → longIn serial ≡ 1
+  unfolding isLong
+  long-says t = eqb-true (longIn serial) 1 (rw e at t)
+
+  pub short-says : isLong area at ≡ false → longIn serial ≡ 0
+  unfolding isLong
+  short-says t = omega (arith, eqb-false (longIn serial) 1 (rw e at t))
 
 -- ---- where the name stands
 pub name-stands : (area : List ℕ) (at from to : ℕ) → nameOf area at ≡ Bytes from to

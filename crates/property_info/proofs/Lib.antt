@@ -1,3 +1,5 @@
 pub mod Laws
 pub mod WrittenLaws
+pub mod Lies
+pub mod SerialLaws
 pub mod Promises

@@ -7,25 +7,25 @@ use lib.ListN.{length}
 use Rattle.words.specs.Words.{littleBytes, put}
 use Rattle.words.specs.Stores.{run, wordStore, textStores}
 use Rattle.words.proofs.StoreLaws.{run-append}
-use Rattle.layout.specs.Layout.{serialField, slotField, longBit, lengthUnit, placeOf}
-use Rattle.property_info.specs.Serial.{dirty, counterBits, updatedSerial}
+use Rattle.layout.specs.Layout.{serialField, slotField, placeOf}
+use Rattle.property_info.specs.Serial.{longBit, lengthUnit, longIn, shortSerial, dirty, counterBits, updatedSerial}
 use Rattle.property_info.specs.Written.{shortStores, writeStores}
 
 -- ---- the counter may wrap at 32 bits: its low 24 are the same
 counter-wraps : (n : ℕ) → counterBits (n % 2 ^ 32) ≡ counterBits n
 counter-wraps n =
     let e : n % 2 ^ 32 % lengthUnit ≡ n % lengthUnit = omega arith in
-    let f : n % 2 ^ 32 / longBit % 2 ≡ n / longBit % 2 = omega arith in
+    let f : longIn (n % 2 ^ 32) ≡ longIn n = omega arith in
     rw (e, f)
 
-pub next-serial : (serial size counter : ℕ) → counter ≡ (dirty serial + 1) % 2 ^ 32
-    → counter % lengthUnit - counter / longBit % 2 * longBit + size * lengthUnit ≡ updatedSerial serial size
+pub next-serial : (serial size counter : ℕ) → counter ≡ (dirty serial + 1) % 2 ^ 32 → (bit : ℕ) → bit ≡ longIn counter → (top : ℕ) → top ≡ shortSerial size
+    → counter % lengthUnit - bit * longBit + top ≡ updatedSerial serial size
 unfolding updatedSerial
-next-serial serial size counter e = rw e (rw (counter-wraps (dirty serial + 1)))
+next-serial serial size counter e bit f top g = rw (f, g, e) (rw (counter-wraps (dirty serial + 1)))
 
 -- ---- an entry's stores
 pub short-run : (area : List ℕ) (at : ℕ) (value : List ℕ)
-    → run area (shortStores at value) ≡ run (put area (placeOf at serialField) (littleBytes 4 (length value * lengthUnit))) (textStores (placeOf at slotField) value)
+    → run area (shortStores at value) ≡ run (put area (placeOf at serialField) (littleBytes 4 (shortSerial (length value)))) (textStores (placeOf at slotField) value)
 unfolding shortStores run
 short-run area at value = refl
 

@@ -1,5 +1,5 @@
 -- Value (document 01): what an entry shows, and where it stands. The entry has been touched.
-use Prim.Native.Nat.{ℕ, _-_, _/_, _%_}
+use Prim.Native.Nat.{ℕ, _-_}
 use mathlib.Core.Bool.{Bool, cond}
 use mathlib.Core.List.{List}
 use lib.ListN.{length}
@@ -7,11 +7,13 @@ use lib.Dec.{eqb, leb}
 use Rattle.words.specs.Words.{firstIn}
 use Rattle.layout.specs.declared.text.Span.{Span}
 use Rattle.layout.specs.declared.text.Span.the-variants.{Bytes, Broken}
-use Rattle.layout.specs.Layout.{serialField, slotField, slotSize, longOffsetField, longBit, entrySize, entryTakes, placeOf, wordAt, textIn}
+use Rattle.property_info.specs.Serial.{longIn}
+use Rattle.layout.specs.Refusals.{guard}
+use Rattle.layout.specs.Layout.{serialField, slotField, slotSize, longOffsetField, entrySize, entryTakes, placeOf, wordAt, textIn}
 
--- short: serial bit 16 clear
+-- long: serial bit 16 set; short: clear
 unfoldable pub isLong : List ℕ → ℕ → Bool
-isLong area at = eqb (wordAt area at serialField / longBit % 2) 1
+isLong area at = eqb (longIn (wordAt area at serialField)) 1
 
 -- slot bytes up to the first zero, all 92 if none
 abbrev pub slotEnd : List ℕ → ℕ → ℕ
@@ -30,7 +32,7 @@ nameOf area at = textFrom area (placeOf at entrySize)
 
 -- the relative offset must be at least align4(96 + L + 1), L being the entry name's length; the value runs to the next zero in the area
 abbrev pub behindName : List ℕ → ℕ → ℕ → Span → Span
-behindName area at relative (Bytes from to) = cond (leb (entryTakes (to - from)) relative) (textFrom area (placeOf at relative)) Broken
+behindName area at relative (Bytes from to) = guard (leb (entryTakes (to - from)) relative) Broken (textFrom area (placeOf at relative))
 behindName area at relative Broken = Broken
 
 -- no zero behind the name, or less offset: broken

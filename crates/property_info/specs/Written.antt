@@ -1,14 +1,14 @@
 -- The stores that make an entry, and those that update one (document 01, Add and Update by name).
-use Prim.Native.Nat.{ℕ, _+_, _-_, _*_}
+use Prim.Native.Nat.{ℕ, _-_}
 use mathlib.Core.List.{List, [], _∷_, _++_}
 use lib.ListN.{length, replicate}
 use Rattle.words.specs.Stores.{Store, store, wordStore, textStores}
-use Rattle.layout.specs.Layout.{serialField, slotField, messageField, messageLength, messageSize, longOffsetField, longBit, lengthUnit, placeOf}
-use Rattle.property_info.specs.Serial.{dirty, updatedSerial}
+use Rattle.layout.specs.Layout.{serialField, slotField, messageField, messageLength, messageSize, longOffsetField, placeOf}
+use Rattle.property_info.specs.Serial.{shortSerial, longSerial, dirty, updatedSerial}
 
--- the serial of a short entry is its length times 2^24; slot bytes after the value's zero are not written
+-- a short entry: slot bytes after the value's zero are not written
 unfoldable pub shortStores : ℕ → List ℕ → List Store
-shortStores at value = wordStore (placeOf at serialField) (length value * lengthUnit) ∷ textStores (placeOf at slotField) value
+shortStores at value = wordStore (placeOf at serialField) (shortSerial (length value)) ∷ textStores (placeOf at slotField) value
 
 -- "Must use __system_property_read_callback() to read"
 unfoldable pub message : List ℕ
@@ -16,11 +16,7 @@ message =
     77 ∷ 117 ∷ 115 ∷ 116 ∷ 32 ∷ 117 ∷ 115 ∷ 101 ∷ 32 ∷ 95 ∷ 95 ∷ 115 ∷ 121 ∷ 115 ∷ 116 ∷ 101 ∷ 109 ∷ 95 ∷ 112 ∷ 114 ∷ 111 ∷ 112 ∷ 101 ∷ 114 ∷ 116 ∷ 121
     ∷ 95 ∷ 114 ∷ 101 ∷ 97 ∷ 100 ∷ 95 ∷ 99 ∷ 97 ∷ 108 ∷ 108 ∷ 98 ∷ 97 ∷ 99 ∷ 107 ∷ 40 ∷ 41 ∷ 32 ∷ 116 ∷ 111 ∷ 32 ∷ 114 ∷ 101 ∷ 97 ∷ 100 ∷ []
 
--- a long entry's serial is 0x32010000: the message's length, and bit 16
-abbrev pub longSerial : ℕ
-longSerial = messageLength * lengthUnit + longBit
-
--- the message, then six zeros; bytes 64 to 95 are not written
+-- a long entry: the message, then six zeros; bytes 64 to 95 are not written
 unfoldable pub longStores : ℕ → ℕ → List Store
 longStores at relative =
     wordStore (placeOf at serialField) longSerial

@@ -5,23 +5,26 @@ ghost use lib.ListN.{length};
 ghost use Rattle.words.specs.Stores.{run};
 ghost use Rattle.layout.specs.Layout.{EntryIn, slotSize};
 ghost use Rattle.property_info.specs.Entry.{isLong, shortValue, nameOf, longValue, valueOf};
-ghost use Rattle.property_info.specs.Serial.{dirty, updatedSerial};
 ghost use Rattle.property_info.specs.Written.{shortStores, longStores, writeStores};
+
+mod serial;
+
+use crate::serial::dirty_serial;
+use crate::serial::long_serial;
+use crate::serial::next_serial;
+use crate::serial::says_long;
+use crate::serial::short_serial;
 use layout::Entry;
 use layout::Header;
 use layout::Span;
-
-// The serial's bit that tells a long entry.
-const LONG_FLAG: u32 = 0x0001_0000;
-
-// The serial's unit of length: its top byte.
-const LENGTH_UNIT: u32 = 0x0100_0000;
+pub use serial::POSITIONS;
+pub use serial::position_of;
 
 pub fn is_long(area: &[u8], entry: Entry) -> bool
     requires { ⌜ EntryIn (now area) (entry .at) ⌝ }
     ensures { λ r. ⌜ r ≡ isLong (now (area .entry)) (entry .at) ⌝ }
 {
-    entry.serial(area) / LONG_FLAG % 2 == 1
+    says_long(entry.serial(area))
 }
 
 // The slot's bytes up to the first zero; all of them where there is none.
@@ -81,7 +84,7 @@ pub fn init_with_value(area: &mut [u8], entry: Entry, value: &[u8])
     ensures { λ _. ⌜ now (area .exit) ≡ run (now (area .entry)) (shortStores (entry .at) (now (value .entry))) ⌝ }
 {
     let at = Header::SIZE + entry.at;
-    words::put_word(area, at + Entry::SERIAL, value.len() as u32 * LENGTH_UNIT);
+    words::put_word(area, at + Entry::SERIAL, short_serial(value.len()));
     words::put_text(area, at + Entry::VALUE, value);
 }
 
@@ -91,33 +94,13 @@ pub fn init_with_long_offset(area: &mut [u8], entry: Entry, relative: u32)
     ensures { λ _. ⌜ now (area .exit) ≡ run (now (area .entry)) (longStores (entry .at) relative) ⌝ }
 {
     let at = Header::SIZE + entry.at;
-    words::put_word(
-        area,
-        at + Entry::SERIAL,
-        Entry::MESSAGE_LENGTH * LENGTH_UNIT + LONG_FLAG,
-    );
+    words::put_word(area, at + Entry::SERIAL, long_serial());
     words::copy(
         area,
         at + Entry::MESSAGE,
         b"Must use __system_property_read_callback() to read\0\0\0\0\0\0",
     );
     words::put_word(area, at + Entry::LONG_OFFSET, relative);
-}
-
-// The serial while a value is being written: odd.
-fn dirty_serial(serial: u32) -> u32
-    ensures { λ r. ⌜ r ≡ dirty serial ⌝ }
-{
-    serial / 2 * 2 + 1
-}
-
-// The serial after an update: the counter one on, never carried into the bit that tells a long entry, and the new length.
-fn next_serial(serial: u32, size: usize) -> u32
-    requires { ⌜ size < slotSize ⌝ }
-    ensures { λ r. ⌜ r ≡ updatedSerial serial size ⌝ }
-{
-    let counter = std::num::wrapping_add_u32(dirty_serial(serial), 1);
-    counter % LENGTH_UNIT - counter / LONG_FLAG % 2 * LONG_FLAG + size as u32 * LENGTH_UNIT
 }
 
 // Updates a short entry, whose serial was read before: odd serial, value, next serial.

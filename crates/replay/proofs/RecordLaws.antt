@@ -7,7 +7,7 @@ use borrow.Author.Tests.{leb-true, ne-eqb, le-leb, lt-leb}
 use lib.Dec.{leb}
 use lib.ListN.{length}
 use Rattle.words.specs.Words.{littleAt}
-use Rattle.words.proofs.Laws.{bool-cases}
+use Rattle.words.proofs.Laws.{bool-cases, clash}
 use Rattle.replay.specs.declared.records.Step.{Step}
 use Rattle.replay.specs.declared.records.Opcode.{Opcode}
 use Rattle.replay.specs.declared.records.Parts.{Parts}
@@ -111,11 +111,11 @@ module _ (vectors : List ℕ) where
       let k : Reading.Record q ≡ Reading.Record p = rw t at e in
       let g : q ≡ p = cc in
       rw (← g) (record { strings = omega arith; middle = omega arith; answers = refl; end = leb-true _ _ t }))
-      (λ t. let k : Reading.Cut ≡ Reading.Record p = rw t at e in absurd (let z : _≡_ {A = ℕ} 0 1 = cc in omega arith))
+      (λ t. let k : Reading.Cut ≡ Reading.Record p = rw t at e in clash cc)
 
   opcode-lies : (o : Opcode) (from : ℕ) (p : Parts) → byOpcode o (λ step. readParts vectors (partsAt vectors step from)) ≡ Reading.Record p → Lies vectors p
   opcode-lies (Opcode.Of step) from p e = parts-lie step from p e
-  opcode-lies Opcode.Unknown from p e = absurd (let z : _≡_ {A = ℕ} 0 1 = cc in omega arith)
+  opcode-lies Opcode.Unknown from p e = clash cc
 
   pub record-lies : (at : ℕ) (r : Reading) → r ≡ readRecord vectors at → (p : Parts) → r ≡ Reading.Record p → Lies vectors p
   unfolding readRecord
@@ -124,4 +124,4 @@ module _ (vectors : List ℕ) where
       (λ t. opcode-lies (stepOf (littleAt 4 vectors at)) (at + 4) p (rw t at (sym e ∙ f)))
       (λ t.
       let k : Reading.Cut ≡ Reading.Record p = rw t at (sym e ∙ f) in
-      absurd (let z : _≡_ {A = ℕ} 0 1 = cc in omega arith))
+      clash cc)

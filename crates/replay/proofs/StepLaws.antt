@@ -7,30 +7,30 @@ use lib.ListN.{length}
 use Rattle.words.specs.Words.{littleBytes, put}
 use Rattle.layout.specs.declared.refusal.Refusal.{Refusal}
 use Rattle.layout.specs.Refusals.{Answer, numberOf, Outcome, leaves}
-use Rattle.property_area.specs.declared.lookup.Found.{Found}
-use Rattle.property_area.specs.declared.values.Shown.{Shown}
+use Rattle.property_area.specs.declared.descent.Found.{Found}
+use Rattle.property_area.specs.declared.values.ValuePart.{ValuePart}
 use Rattle.property_area.specs.Find.{Hit, foundAnswer}
-use Rattle.property_area.specs.Value.{Part, shownAnswer}
+use Rattle.property_area.specs.Value.{Part, partAnswer}
 use Rattle.property_area.specs.Backup.{backupSteps}
 use Rattle.replay.specs.Checksum.{adler}
 use Rattle.replay.specs.declared.steps.Answers.{Answers}
-use Rattle.replay.specs.Steps.{answers, plays, byOutcome, foundAnswers, shownAnswers, backupAnswers, poked}
+use Rattle.replay.specs.Steps.{answers, plays, byOutcome, foundReply, partReply, backupAnswers, poked}
 
 -- f is what find answered
 module _ (answer : Answer Hit) (f : Found) (e : foundAnswer f ≡ answer) where
-  pub found-entry : (offset compared : ℕ) → f ≡ Found.Entry offset compared → answers 0 offset (compared % 2 ^ 32) ≡ foundAnswers answer
+  pub found-entry : (offset compared : ℕ) → f ≡ Found.Entry offset compared → answers 0 offset (compared % 2 ^ 32) ≡ foundReply answer
   found-entry offset compared g = rw (← e, g)
 
-  pub found-refused : (why : Refusal) → f ≡ Found.Refused why → (n : ℕ) → n ≡ numberOf why → (r : Answers) → r ≡ answers n 0 0 → r ≡ foundAnswers answer
+  pub found-refused : (why : Refusal) → f ≡ Found.Refused why → (n : ℕ) → n ≡ numberOf why → (r : Answers) → r ≡ answers n 0 0 → r ≡ foundReply answer
   found-refused why g n h r k = rw (← e, g, ← h) k
 
 -- s is what value answered
-module _ (answer : Answer Part) (s : Shown) (e : shownAnswer s ≡ answer) where
-  pub shown-bytes : (from to : ℕ) → s ≡ Shown.Bytes from to → answers 0 from (to - from) ≡ shownAnswers answer
-  shown-bytes from to g = rw (← e, g)
+module _ (answer : Answer Part) (s : ValuePart) (e : partAnswer s ≡ answer) where
+  pub valued-bytes : (from to : ℕ) → s ≡ ValuePart.Bytes from to → answers 0 from (to - from) ≡ partReply answer
+  valued-bytes from to g = rw (← e, g)
 
-  pub shown-refused : (why : Refusal) → s ≡ Shown.Refused why → (n : ℕ) → n ≡ numberOf why → (r : Answers) → r ≡ answers n 0 0 → r ≡ shownAnswers answer
-  shown-refused why g n h r k = rw (← e, g, ← h) k
+  pub valued-refused : (why : Refusal) → s ≡ ValuePart.Refused why → (n : ℕ) → n ≡ numberOf why → (r : Answers) → r ≡ answers n 0 0 → r ≡ partReply answer
+  valued-refused why g n h r k = rw (← e, g, ← h) k
 
 -- filled is the buffer before the read, after the buffer behind it, n the verdict's number
 pub backup-read : (area full filled after : List ℕ) → filled ≡ full → (n : ℕ) → leaves n after ≡ backupSteps area filled

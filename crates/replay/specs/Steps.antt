@@ -9,7 +9,7 @@ use Rattle.layout.specs.Refusals.{Answer, accepted, refused, noRefusal, Outcome
 use Rattle.property_area.specs.Find.{Hit, hit, findSteps}
 use Rattle.property_area.specs.Value.{Part, bytes, valueSteps}
 use Rattle.property_area.specs.Backup.{backupSteps}
-use Rattle.builder.specs.Steps.{outcome}
+use Rattle.allocation.specs.Steps.{outcome}
 use Rattle.builder.specs.Fresh.{formatSteps}
 use Rattle.builder.specs.Add.{addSteps}
 use Rattle.updates.specs.Update.{updateSteps, rawSteps}
@@ -31,13 +31,13 @@ abbrev pub byOutcome : Outcome → Played
 byOutcome (leaves number area) = plays (answers number 0 0) area
 
 -- the count of nodes compared is kept in a word
-abbrev pub foundAnswers : Answer Hit → Answers
-foundAnswers (accepted (hit offset compared)) = answers noRefusal offset (compared % 2 ^ 32)
-foundAnswers (refused number) = answers number 0 0
+abbrev pub foundReply : Answer Hit → Answers
+foundReply (accepted (hit offset compared)) = answers noRefusal offset (compared % 2 ^ 32)
+foundReply (refused number) = answers number 0 0
 
-abbrev pub shownAnswers : Answer Part → Answers
-shownAnswers (accepted (bytes from to)) = answers noRefusal from (to - from)
-shownAnswers (refused number) = answers number 0 0
+abbrev pub partReply : Answer Part → Answers
+partReply (accepted (bytes from to)) = answers noRefusal from (to - from)
+partReply (refused number) = answers number 0 0
 
 -- what the buffer holds before a backup read
 abbrev pub filler : ℕ
@@ -57,8 +57,8 @@ playStep Format first second one other area wanted = byOutcome (formatSteps area
 playStep Add first second one other area wanted = byOutcome (outcome (addSteps area one other))
 playStep Update first second one other area wanted = byOutcome (updateSteps area one other)
 playStep RawUpdate first second one other area wanted = byOutcome (rawSteps area first one other)
-playStep Find first second one other area wanted = plays (foundAnswers (findSteps area one)) area
-playStep Value first second one other area wanted = plays (shownAnswers (valueSteps area first)) area
+playStep Find first second one other area wanted = plays (foundReply (findSteps area one)) area
+playStep Value first second one other area wanted = plays (partReply (valueSteps area first)) area
 playStep BackupRead first second one other area wanted = plays (backupAnswers (backupSteps area (replicate wanted filler))) area
 playStep Distance first second one other area wanted = plays (answers (distance first second) 0 0) area
 playStep Poke first second one other area wanted = plays (answers 0 0 0) (poked area first second)

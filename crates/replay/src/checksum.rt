@@ -1,17 +1,9 @@
 // Adler-32 (RFC 1950), by which a record tells the bytes that a step left.
 ghost use mathlib.Core.Path.{_≡_};
-ghost use Prim.Native.Nat.{_<_};
 ghost use Rattle.replay.specs.Checksum.{adler};
 
 // The largest prime below 65,536.
 const MODULUS: u32 = 65_521;
-
-// A byte as a word.
-fn wide(b: u8) -> u32
-    ensures { λ r. ⌜ (r ≡ b) × (r < 256) ⌝ }
-{
-    b as u32
-}
 
 // The checksum of some bytes: the sum of the sums above the sum.
 pub fn adler32(bytes: &[u8]) -> u32
@@ -21,7 +13,7 @@ pub fn adler32(bytes: &[u8]) -> u32
     let mut high: u32 = 0;
     let mut i = 0;
     while i < bytes.len() {
-        low = (low + wide(bytes[i])) % MODULUS;
+        low = (low + words::wide(bytes[i])) % MODULUS;
         high = (high + low) % MODULUS;
         i += 1;
     }

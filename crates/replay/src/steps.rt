@@ -5,13 +5,13 @@ ghost use Rattle.layout.specs.Refusals.{verdictNumber};
 ghost use Rattle.property_area.specs.Find.{findSteps};
 ghost use Rattle.property_area.specs.Value.{valueSteps};
 ghost use Rattle.property_area.specs.Backup.{backupSteps};
-ghost use Rattle.replay.specs.Steps.{answers, foundAnswers, shownAnswers, filler, backupAnswers, poked, plays, playStep};
+ghost use Rattle.replay.specs.Steps.{answers, foundReply, partReply, filler, backupAnswers, poked, plays, playStep};
 use crate::checksum::adler32;
 use crate::records::Parts;
 use crate::records::Step;
 use layout::Verdict;
 use property_area::Found;
-use property_area::Shown;
+use property_area::ValuePart;
 
 // What a step answers, in the order in which a record has it; 0 where there are fewer than three.
 pub struct Answers {
@@ -41,7 +41,7 @@ fn alone(verdict: Verdict) -> Answers
 
 // The entry of a name, and the low word of the count of nodes compared.
 fn found(area: &[u8], name: &[u8]) -> Answers
-    ensures { λ r. ⌜ r ≡ foundAnswers (findSteps (now (area .entry)) (now (name .entry))) ⌝ }
+    ensures { λ r. ⌜ r ≡ foundReply (findSteps (now (area .entry)) (now (name .entry))) ⌝ }
 {
     match property_area::find(area, name) {
         Found::Entry { offset, compared } => Answers {
@@ -54,37 +54,27 @@ fn found(area: &[u8], name: &[u8]) -> Answers
 }
 
 // Where the value of an entry starts, counted from the area's first byte, and its length.
-fn shown(area: &[u8], entry: u32) -> Answers
-    ensures { λ r. ⌜ r ≡ shownAnswers (valueSteps (now (area .entry)) entry) ⌝ }
+fn valued(area: &[u8], entry: u32) -> Answers
+    ensures { λ r. ⌜ r ≡ partReply (valueSteps (now (area .entry)) entry) ⌝ }
 {
     match property_area::value(area, entry) {
-        Shown::Bytes { from, to } => Answers {
+        ValuePart::Bytes { from, to } => Answers {
             first: 0,
             second: from as u32,
             third: (to - from) as u32,
         },
-        Shown::Refused(why) => Answers::one(why.number()),
+        ValuePart::Refused(why) => Answers::one(why.number()),
     }
 }
 
 // What a buffer holds before a backup read: a refusal keeps it.
 const FILLER: u8 = 0xee;
 
-fn fill(s: &mut [u8], b: u8)
-    ensures { λ _. ⌜ now (s .exit) ≡ replicate (length (now (s .entry))) b ⌝ }
-{
-    let mut i = 0;
-    while i < s.len() {
-        s[i] = b;
-        i += 1;
-    }
-}
-
 // A backup read into the whole buffer, and the buffer's checksum.
 fn backup(area: &[u8], buffer: &mut [u8]) -> Answers
     ensures { λ r. ⌜ r ≡ backupAnswers (backupSteps (now (area .entry)) (replicate (length (now (buffer .entry))) filler)) ⌝ }
 {
-    fill(buffer, FILLER);
+    words::flood(buffer, FILLER);
     let verdict = property_area::read_dirty_backup(area, buffer);
     Answers {
         first: verdict.number(),
@@ -123,7 +113,7 @@ pub fn perform(
         Step::Update => alone(updates::update(area, one, other)),
         Step::RawUpdate => alone(updates::backup_and_apply_write(area, parts.first, one, other)),
         Step::Find => found(area, one),
-        Step::Value => shown(area, parts.first),
+        Step::Value => valued(area, parts.first),
         Step::BackupRead => backup(area, buffer),
         Step::Distance => Answers::one(counters::update_distance(parts.first, parts.second)),
         Step::Poke => {

@@ -7,28 +7,22 @@ use Rattle.words.specs.Words.{littleAt, littleBytes, firstIn, sameBytes, put}
 use Rattle.words.specs.Stores.{run, byteStores}
 use Rattle.names.specs.Names.{segments, segmentOrder, byteOrder}
 use Rattle.layout.specs.Layout.{usedField, rootAt, childrenField, leftField, propField, serialField, longOffsetField, headerWord, wordAt, touch, textIn}
-use Rattle.layout.specs.Refusals.{refused, Outcome, leaves}
+use Rattle.layout.specs.Refusals.{refused, Outcome, numberIn, bytesIn}
 use Rattle.property_info.specs.Entry.{isLong, shortValue, nameOf, longValue, valueOf}
 use Rattle.property_info.specs.Serial.{updatedSerial}
 use Rattle.property_info.specs.Written.{shortStores, longStores, message, writeStores}
-use Rattle.property_area.specs.Header.{headerOk}
-use Rattle.property_area.specs.Trie.{visitNode, searchFrom, segmentSteps}
+use Rattle.trie.specs.Header.{headerOk}
+use Rattle.trie.specs.Trie.{visitNode, searchFrom, segmentSteps}
 use Rattle.property_area.specs.Find.{propSteps, findFrom, findSteps}
-use Rattle.property_area.specs.Value.{partSteps, valueSteps, partOf}
-use Rattle.builder.specs.Steps.{outcome}
+use Rattle.property_area.specs.Value.{partSteps, valueSteps, partOrNone}
+use Rattle.allocation.specs.Steps.{outcome}
 use Rattle.builder.specs.Fresh.{fresh}
-use Rattle.builder.specs.Allocate.{allocate}
-use Rattle.builder.specs.Nodes.{nodeStores, newNode, hangNode, addNode, addSegment, addPath}
-use Rattle.builder.specs.Entries.{layEntry, longEntry, newEntry, addEntry}
+use Rattle.allocation.specs.Allocate.{allocate}
+use Rattle.nodes.specs.Nodes.{nodeStores, newNode, hangNode, addNode, addSegment, addPath}
+use Rattle.entries.specs.Entries.{layEntry, longEntry, newEntry, addEntry}
 use Rattle.builder.specs.Add.{anyEmpty, nameVerdict, addSteps}
 use Rattle.updates.specs.Update.{valueVerdict, updateStores, updateEntry, updateSteps}
 use Rattle.counters.specs.Distance.{distance}
-
-abbrev pub numberIn : Outcome → ℕ
-numberIn (leaves number area) = number
-
-abbrev pub bytesIn : Outcome → List ℕ
-bytesIn (leaves number area) = area
 
 -- names and values: a, b, ab.c, a..b; x, q, 12, 345
 abbrev pub a : List ℕ
@@ -76,7 +70,7 @@ pub record Table : Type 0 where
   pub bytes-92 :
       wordIn (oneName 512 (replicate 92 120)) 112 propField ∷ wordIn (oneName 512 (replicate 92 120)) 136 longOffsetField ∷ usedIn (oneName 512 (replicate 92 120)) ∷ []
       ≡ 136 ∷ 100 ∷ 332 ∷ []
-  pub value-92 : partOf (bytesIn (oneName 512 (replicate 92 120))) (valueSteps (bytesIn (oneName 512 (replicate 92 120))) 136) ≡ replicate 92 120
+  pub value-92 : partOrNone (bytesIn (oneName 512 (replicate 92 120))) (valueSteps (bytesIn (oneName 512 (replicate 92 120))) 136) ≡ replicate 92 120
   -- update serial 0x02000000 with "345": 0x03000002; 0x0102fffe with one byte: 0x01020000; distance between these two: 1
   pub update-345 : wordIn (updateSteps (bytesIn first) ab-c (51 ∷ 52 ∷ 53 ∷ [])) 160 serialField ≡ 0x03000002
   pub serial-round : updatedSerial 0x0102fffe 1 ≡ 0x01020000

@@ -1,4 +1,6 @@
 // Runs the settled examples: answers, and the words of the area that they speak of.
+use layout::Entry;
+use layout::Header;
 use layout::Verdict;
 use libc::STDOUT_FILENO;
 use property_area::Found;
@@ -22,7 +24,7 @@ fn show(area: &[u8], name: &[u8]) {
             say(b", nodes compared ");
             io::print_decimal(STDOUT_FILENO, compared as u64);
             say(b", value ");
-            say(property_area::value_part(area, offset));
+            say(property_area::value_bytes(area, offset));
         }
         Found::Refused(why) => {
             say(b": refused ");
@@ -46,7 +48,7 @@ fn answer(v: Verdict) {
 fn used(area: &[u8]) {
     if 4 <= area.len() {
         say(b", used ");
-        say_number(words::word(area, 0));
+        say_number(words::word(area, Header::USED));
     }
     say(b"\n");
 }
@@ -54,13 +56,13 @@ fn used(area: &[u8]) {
 // A word of the data, by its offset.
 fn word(area: &[u8], what: &[u8], offset: usize) {
     if offset < 4096 {
-        if offset + 132 <= area.len() {
+        if Header::SIZE + offset + 4 <= area.len() {
             say(b"  ");
             say(what);
             say(b" at ");
             io::print_decimal(STDOUT_FILENO, offset as u64);
             say(b": ");
-            say_number(words::word(area, 128 + offset));
+            say_number(words::word(area, Header::SIZE + offset));
             say(b"\n");
         }
     }
@@ -170,7 +172,7 @@ fn main() {
     let mut d = [7u8; 239];
     one_name(&mut d);
     let mut e = [7u8; 512];
-    let value = [120u8; 92];
+    let value = [120u8; Entry::VALUE_MAX];
     one_value(&mut e, &value[..91]);
     update_both(&mut e);
     one_value(&mut e, &value);

@@ -8,7 +8,7 @@ use lib.Seq.{ext-getD, getD-take, getD-drop}
 use Rattle.words.specs.Words.{littleAt, part}
 use Rattle.words.proofs.Laws.{little-agree}
 use Rattle.layout.specs.Layout.{wordSize, usedField, magicField, versionField, nodeSize, entrySize, serialField, slotField, longOffsetField, rootAt, byteOf, placeOf, nodeTakes, entryTakes, valueTakes}
-use Rattle.property_area.specs.Header.{headerOk}
+use Rattle.trie.specs.Header.{headerOk}
 use Rattle.sound.specs.Tree.{Value, short, long, Entry, bare, entry, Tree, leaf, node, inside, valueCover, entryCover, cover}
 use Rattle.sound.specs.Sound.{Holds, HoldsText, nodeWords, NodeAt, ValueAt, EntryAt, TreeAt, Front}
 use Rattle.sound.proofs.Inside.{inside-yes, inside-part}

@@ -11,9 +11,9 @@ use Rattle.words.proofs.Laws.{bool-cases}
 use Rattle.names.specs.Names.{dot}
 use Rattle.layout.specs.Layout.{entryTakes, firstFree, byteOf}
 use Rattle.sound.specs.Tree.{Value, short, long, Entry, bare, entry, Tree, leaf, node, listedOwn, listed, inside, valueCover, entryCover, cover}
-use Rattle.sound.specs.Sound.{ValueRule, EntryRule, TreeRule}
+use Rattle.sound.specs.Sound.{ValueRule, EntryRule, TreeRule, Room}
 use Rattle.sound.specs.Objects.{Object, takes, valueObjects, entryObjects, objects, Each, Takes, ShareNone, Apart, Between, Aligned, times}
-use Rattle.sound.proofs.Inside.{inside-yes, inside-cases, inside-between}
+use Rattle.sound.proofs.Inside.{inside-yes, inside-most, inside-cases, inside-between}
 
 -- ---- the count over the list is the count over the tree
 abbrev taken : Object → ℕ → ℕ
@@ -62,7 +62,7 @@ none-shared x (y ∷ ys) once = (
   none-shared x ys (λ i. omega (arith, once i)),
 )
 
-pub apart-of : (xs : List Object) → ((i : ℕ) → covers xs i ≤ 1) → Apart xs
+apart-of : (xs : List Object) → ((i : ℕ) → covers xs i ≤ 1) → Apart xs
 unfolding covers
 apart-of [] once = tt
 apart-of (x ∷ xs) once = (none-shared x xs once, apart-of xs (λ i. omega (arith, once i)))
@@ -79,7 +79,7 @@ module _ (used : ℕ) (low : firstFree ≤ used) where
   abbrev room : ℕ → ℕ
   room i = inside (byteOf firstFree) (used - firstFree) i
 
-  pub between-of : (xs : List Object) → ((i : ℕ) → covers xs i ≤ room i) → Each (Between used) xs
+  between-of : (xs : List Object) → ((i : ℕ) → covers xs i ≤ room i) → Each (Between used) xs
   unfolding covers
   between-of [] within = tt
   between-of (x ∷ xs) within =
@@ -101,6 +101,17 @@ module _ (used : ℕ) (low : firstFree ≤ used) where
           inside-yes (byteOf firstFree) (used - firstFree) i (omega (arith, between .0 .0, z .1)) (omega (arith, between .0 .1, z .2)),
         )
       ]
+
+-- ---- of a tree that keeps to its room: no byte is counted twice, and its objects are apart and lie between
+module _ (used : ℕ) (tree : Tree) (room : Room used tree) where
+  pub room-once : (i : ℕ) → cover tree i ≤ 1
+  room-once i = omega (arith, room i, inside-most (byteOf firstFree) (used - firstFree) i)
+
+  pub room-apart : Apart (objects tree)
+  room-apart = apart-of (objects tree) (λ i. omega (arith, tree-covers tree i, room-once i))
+
+  pub room-between : firstFree ≤ used → Each (Between used) (objects tree)
+  room-between low = between-of used low (objects tree) (λ i. omega (arith, tree-covers tree i, room i))
 
 -- ---- a rule of each
 each-append : (P : Object → Type 0) (xs ys : List Object) → Each P xs → Each P ys → Each P (xs ++ ys)

@@ -1,5 +1,5 @@
 -- Bytes determine what stands in them: a text up to its zero, a value, an entry, and the tree below a link.
-use Prim.Native.Nat.{ℕ, _+_, _*_, _≤_, _<_}
+use Prim.Native.Nat.{ℕ, _+_, _-_, _*_, _≤_, _<_}
 use native.Mathlib.Omega.{arith}
 use native.Mathlib.Decide.{decLt}
 use mathlib.Core.Path.{_≡_, refl, sym, ap, _∙_}
@@ -9,13 +9,16 @@ use lib.Seq.{ext-getD}
 use Rattle.names.specs.Names.{dot}
 use Rattle.layout.specs.Layout.{wordSize, nodeSize, serialField, slotField, longOffsetField, firstFree, byteOf, placeOf, wordAt, nodeTakes, entryTakes}
 use Rattle.sound.specs.Tree.{Value, short, long, Entry, bare, entry, Tree, leaf, node, link, entryLink, inside, entryCover, cover}
-use Rattle.sound.specs.Sound.{Holds, HoldsText, nodeWords, NodeAt, ValueAt, EntryAt, TreeAt, Without, ValueRule, EntryRule, TreeRule}
-use Rattle.sound.proofs.Inside.{inside-yes}
+use Rattle.sound.specs.Sound.{Holds, HoldsText, nodeWords, NodeAt, ValueAt, EntryAt, TreeAt, Without, ValueRule, EntryRule, TreeRule, Room}
+use Rattle.sound.proofs.Inside.{inside-yes, inside-low}
 use Rattle.sound.proofs.Holding.{text-bytes, text-zero}
 
 -- no byte before the first free one is counted; so no object stands at offset 0
 abbrev pub Behind : (ℕ → ℕ) → Type 0
 Behind count = (i : ℕ) → 1 ≤ count i → byteOf firstFree ≤ i
+
+pub room-behind : (used : ℕ) (tree : Tree) → Room used tree → Behind (cover tree)
+room-behind used tree room i h = inside-low (byteOf firstFree) (used - firstFree) i (omega (arith, room i))
 
 not-zero : (at size : ℕ) → 1 ≤ size → Behind (inside (byteOf at) size) → 1 ≤ at
 not-zero at size some behind = omega (arith, behind (byteOf at) (omega (arith, inside-yes (byteOf at) size (byteOf at) (omega arith) (omega arith))))
@@ -39,14 +42,14 @@ module _ (area : List ℕ) where
       (text-bytes area from x f) (text-bytes area to y g)
 
   -- ---- a value is short or long by its serial
-  one-value : (at place s t : ℕ) (name path : List ℕ) (x y : Value) → at ≡ place → s ≡ t → ValueAt area at x → ValueAt area place y
+  same-value : (at place s t : ℕ) (name path : List ℕ) (x y : Value) → at ≡ place → s ≡ t → ValueAt area at x → ValueAt area place y
       → ValueRule at s name x → ValueRule place t path y → x ≡ y
   unfolding ValueAt ValueRule
-  one-value at place s t name path (short x) (short y) e f p q r u =
+  same-value at place s t name path (short x) (short y) e f p q r u =
       ap short (one-bytes (placeOf at slotField) (placeOf place slotField) x y (omega arith) (p .1 ∙ sym (q .1)) (p .0) (q .0))
-  one-value at place s t name path (short x) (long to y) e f p q r u = absurd (omega (arith, r .0, u .0))
-  one-value at place s t name path (long from x) (short y) e f p q r u = absurd (omega (arith, r .0, u .0))
-  one-value at place s t name path (long from x) (long to y) e f p q r u =
+  same-value at place s t name path (short x) (long to y) e f p q r u = absurd (omega (arith, r .0, u .0))
+  same-value at place s t name path (long from x) (short y) e f p q r u = absurd (omega (arith, r .0, u .0))
+  same-value at place s t name path (long from x) (long to y) e f p q r u =
       let w : wordAt area at longOffsetField ≡ wordAt area place longOffsetField = ap (λ (i : ℕ). wordAt area i longOffsetField) e in
       let far : from ≡ to = omega (arith, p .0, q .0, r .2, u .2) in
       let text : x ≡ y = one-text (byteOf from) (byteOf to) x y (omega arith) (p .1) (q .1) (r .3) (u .3) in
@@ -64,7 +67,7 @@ module _ (area : List ℕ) where
   one-entry p q (entry at s name v) (entry place t path w) e l b c f g r u =
       let serial : s ≡ t = sym (f .0) ∙ ap (λ (i : ℕ). wordAt area i serialField) l ∙ g .0 in
       let same : name ≡ path = r .0 ∙ e ∙ sym (u .0) in
-      let value : v ≡ w = one-value at place s t name path v w l serial (f .2) (g .2) (r .2) (u .2) in
+      let value : v ≡ w = same-value at place s t name path v w l serial (f .2) (g .2) (r .2) (u .2) in
       cc
 
   -- ---- a node: its words are its name's length and its links

@@ -1,5 +1,5 @@
 -- Soundness (document 01, Area check and listing): the one definition that check, listing and history cite.
-use Prim.Native.Nat.{ℕ, _+_, _-_, _*_, _/_, _%_, _≤_, _<_}
+use Prim.Native.Nat.{ℕ, _+_, _-_, _*_, _%_, _≤_, _<_}
 use mathlib.Core.Path.{_≡_}
 use mathlib.Core.Logic.{_≢_}
 use mathlib.Core.Bool.{true}
@@ -8,8 +8,9 @@ use lib.ListN.{length, getD}
 use Rattle.names.specs.Names.{dot, segmentOrder}
 use Rattle.names.specs.declared.Order.{Order}
 use Rattle.names.specs.declared.Order.the-variants.{Less, Greater}
-use Rattle.layout.specs.Layout.{wordSize, usedField, nodeSize, entrySize, serialField, slotField, slotSize, longOffsetField, longBit, rootAt, childrenField, firstFree, dataSize, byteOf, placeOf, headerWord, wordAt, entryTakes}
-use Rattle.property_area.specs.Header.{headerOk}
+use Rattle.layout.specs.Layout.{wordSize, usedField, nodeSize, entrySize, serialField, slotField, slotSize, longOffsetField, rootAt, childrenField, firstFree, dataSize, byteOf, placeOf, headerWord, wordAt, entryTakes}
+use Rattle.property_info.specs.Serial.{longIn}
+use Rattle.trie.specs.Header.{headerOk}
 use Rattle.sound.specs.Tree.{Value, short, long, Entry, bare, entry, Tree, leaf, node, link, entryLink, inside, cover}
 
 -- ---- the bytes represent the tree
@@ -60,9 +61,9 @@ pub record NodeRule (at : ℕ) (name : List ℕ) : Type 0 where
 
 -- short, serial bit 16 clear: the slot has a zero; long: at a multiple of 4, at least align4(96 + L + 1) from the entry's start, up to its zero
 unfoldable pub ValueRule : ℕ → ℕ → List ℕ → Value → Type 0
-ValueRule at serial name (short slot) = (serial / longBit % 2 ≡ 0) × Has 0 slot
+ValueRule at serial name (short slot) = (longIn serial ≡ 0) × Has 0 slot
 ValueRule at serial name (long far text) =
-    (serial / longBit % 2 ≡ 1) × (far % wordSize ≡ 0) × (at + entryTakes (length name) ≤ far) × Without 0 text
+    (longIn serial ≡ 1) × (far % wordSize ≡ 0) × (at + entryTakes (length name) ≤ far) × Without 0 text
 
 -- an entry's name is its dotted path; it starts at a multiple of 4
 unfoldable pub EntryRule : List ℕ → Entry → Type 0

@@ -1,8 +1,9 @@
--- Laws of specs/Text.antt, one for each way out of the code: which bytes are shown, digits, a byte's stores, a turn of the escaping loop, a piece fed.
-use Prim.Native.Nat.{ℕ, zero, suc, _+_, _-_, _/_, _%_, min, _≤_, _<_}
+-- Laws of specs/Text.antt, for each way out of the code: which bytes are shown, digits, a byte's stores, a turn of the escaping loop, a piece fed;
+-- and what is promised of texts: where they stand, how long they are.
+use Prim.Native.Nat.{ℕ, zero, suc, _+_, _-_, _*_, _/_, _%_, min, _≤_, _<_}
 use mathlib.Core.Path.{_≡_, refl, sym, ap, _∙_}
 use mathlib.Core.Bool.{Bool, true, false, not}
-use mathlib.Core.List.{List, [], _∷_, _++_, append-nil}
+use mathlib.Core.List.{List, [], _∷_, _++_, append-assoc, append-nil}
 use native.Mathlib.Nat.{zero-add, add-zero, add-assoc, sub-self}
 use native.Mathlib.Numerals.{add-one}
 use native.Mathlib.Omega.{arith}
@@ -13,16 +14,16 @@ use lib.Seq.{append-snoc, take-suc-set, take-all, drop-cons, set-out}
 use Rattle.words.specs.Words.{part, put}
 use Rattle.words.proofs.Laws.{bool-cases, put-length, first-end, first-low, first-high}
 use Rattle.words.proofs.StoreLaws.{put-append}
-use Rattle.texts.specs.Text.{backslash, isShown, hexDigit, escapedByte, escaped, saying, said, lineFeed, pieceEnd, fed, feed}
+use Rattle.texts.specs.Text.{backslash, printsAsIs, hexDigit, escapedByte, escaped, saying, said, lineFeed, pieceEnd, fed, feed}
 
 -- ---- bytes that print as they are
-pub shown-low : (b : ℕ) → b < 0x20 → false ≡ isShown b
+pub shown-low : (b : ℕ) → b < 0x20 → false ≡ printsAsIs b
 shown-low b h = rw (lt-leb 0x20 b h)
 
-pub shown-high : (b : ℕ) → 0x20 ≤ b → 0x7e < b → false ≡ isShown b
+pub shown-high : (b : ℕ) → 0x20 ≤ b → 0x7e < b → false ≡ printsAsIs b
 shown-high b h k = rw (le-leb 0x20 b h, lt-leb b 0x7e k)
 
-pub shown-between : (b : ℕ) → 0x20 ≤ b → b ≤ 0x7e → not (eqb b backslash) ≡ isShown b
+pub shown-between : (b : ℕ) → 0x20 ≤ b → b ≤ 0x7e → not (eqb b backslash) ≡ printsAsIs b
 shown-between b h k = rw (le-leb 0x20 b h, le-leb b 0x7e k)
 
 -- ---- hex digits
@@ -34,11 +35,11 @@ digit-high d h = rw (le-ltb d 10 h)
 
 -- ---- a byte's stores, and the next place
 module _ (s : List ℕ) (at b : ℕ) where
-  pub put-shown : true ≡ isShown b → (at + 1 ≡ at + length (escapedByte b)) × (at + 1 ≤ at + 4) × (set s at b ≡ put s at (escapedByte b))
+  pub put-shown : true ≡ printsAsIs b → (at + 1 ≡ at + length (escapedByte b)) × (at + 1 ≤ at + 4) × (set s at b ≡ put s at (escapedByte b))
   unfolding escapedByte put
   put-shown h = rw (← h) (refl, omega arith, refl)
 
-  pub put-hidden : false ≡ isShown b → (high low : ℕ) → high ≡ hexDigit (b / 16) → low ≡ hexDigit (b % 16)
+  pub put-hidden : false ≡ printsAsIs b → (high low : ℕ) → high ≡ hexDigit (b / 16) → low ≡ hexDigit (b % 16)
       → (at + 4 ≡ at + length (escapedByte b)) × (at + 4 ≤ at + 4) × (set (set (set (set s at backslash) (at + 1) 120) (at + 2) high) (at + 3) low ≡ put s at (escapedByte b))
   unfolding escapedByte put
   put-hidden h high low e f = rw (← h, e, f) (refl, omega arith, simp add-assoc)
@@ -115,7 +116,7 @@ pub said-then : (out : List ℕ) (at : ℕ) (a b : List ℕ) {next last : ℕ} {
     → saying last end ≡ said out at (a ++ b)
 said-then out at a b {next} {last} {after} {end} e f = f ∙ said-append out at a b next after e
 
--- ---- a turn of escaping: a place past the end is the end; one byte more; none left
+-- ---- a text that fits stands there whole, behind what stood before it
 pub put-front : (s : List ℕ) (at : ℕ) (bs : List ℕ) → at + length bs ≤ length s → take (at + length bs) (put s at bs) ≡ take at s ++ bs
 unfolding put
 put-front s at [] h = rw add-zero (sym (append-nil (take at s)))
@@ -123,10 +124,31 @@ put-front s at (b ∷ bs) h =
     let e : at + suc (length bs) ≡ at + 1 + length bs = omega arith in
     rw e (put-front (set s at b) (at + 1) bs (simp length-set (omega arith)) ∙ rw (add-one, take-suc-set s at b (omega arith)) (append-snoc (take at s) b bs))
 
+pub said-stands : (out : List ℕ) (at : ℕ) (text : List ℕ) (next : ℕ) (after : List ℕ) → saying next after ≡ said out at text → at + length text ≤ length out
+    → (next ≡ at + length text) × (take next after ≡ take at out ++ text)
+unfolding said
+said-stands out at text next after e h =
+    let m : next ≡ min (at + length text) (length out) = cc in
+    let p : after ≡ put out at text = cc in
+    let n : next ≡ at + length text = omega arith in
+    (n, rw (n, p) (put-front out at text h))
+
+-- ---- a text escaped piece by piece; a byte escapes to at most four
+pub escaped-append : (a b : List ℕ) → escaped (a ++ b) ≡ escaped a ++ escaped b
+unfolding escaped
+escaped-append [] b = refl
+escaped-append (x ∷ a) b = rw (escaped-append a b) (sym (append-assoc (escapedByte x) (escaped a) (escaped b)))
+
 pub byte-few : (b : ℕ) → length (escapedByte b) ≤ 4
 unfolding escapedByte
-byte-few b = bool-cases (isShown b) (λ t. rw t (omega arith)) (λ t. rw t (omega arith))
+byte-few b = bool-cases (printsAsIs b) (λ t. rw t (omega arith)) (λ t. rw t (omega arith))
 
+pub escaped-few : (text : List ℕ) → length (escaped text) ≤ 4 * length text
+unfolding escaped
+escaped-few [] = omega arith
+escaped-few (b ∷ bs) = omega (arith, length-append (escapedByte b) (escaped bs), byte-few b, escaped-few bs)
+
+-- ---- a turn of escaping: a place past the end is the end; one byte more; none left
 module _ (s : List ℕ) (b size : ℕ) (after : List ℕ) (l : length s ≡ 4) (e : size ≡ 0 + length (escapedByte b)) (p : after ≡ put s 0 (escapedByte b)) where
   pub byte-there : take size after ≡ escapedByte b
   byte-there = rw (e, p) (put-front s 0 (escapedByte b) (omega (arith, byte-few b)))

@@ -1,3 +1,4 @@
 pub mod Laws
 pub mod NumberLaws
+pub mod Feeding
 pub mod Promises

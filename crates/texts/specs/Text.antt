@@ -10,8 +10,8 @@ use Rattle.words.specs.Words.{part, firstIn, put}
 abbrev pub backslash : ℕ
 backslash = 92
 
-abbrev pub isShown : ℕ → Bool
-isShown b = leb 0x20 b && leb b 0x7e && not (eqb b backslash)
+abbrev pub printsAsIs : ℕ → Bool
+printsAsIs b = leb 0x20 b && leb b 0x7e && not (eqb b backslash)
 
 -- 0 to 9
 abbrev pub digit : ℕ → ℕ
@@ -22,7 +22,7 @@ abbrev pub hexDigit : ℕ → ℕ
 hexDigit d = cond (ltb d 10) (digit d) (87 + d)
 
 unfoldable pub escapedByte : ℕ → List ℕ
-escapedByte b = cond (isShown b) (b ∷ []) (backslash ∷ 120 ∷ hexDigit (b / 16) ∷ hexDigit (b % 16) ∷ [])
+escapedByte b = cond (printsAsIs b) (b ∷ []) (backslash ∷ 120 ∷ hexDigit (b / 16) ∷ hexDigit (b % 16) ∷ [])
 
 unfoldable pub escaped : List ℕ → List ℕ
 escaped [] = []
@@ -43,7 +43,7 @@ decimal n = decimalIn digitsMax n
 
 -- ---- a text goes into a buffer from a place on; what would stand behind the buffer's end is dropped: the next place, the buffer
 pub data Said : Type 0 where
-  saying : ℕ → List ℕ → Said
+  saying : (next : ℕ) (buffer : List ℕ) → Said
 
 unfoldable pub said : List ℕ → ℕ → List ℕ → Said
 said out at text = saying (min (at + length text) (length out)) (put out at text)
@@ -57,7 +57,7 @@ pieceEnd input from = firstIn lineFeed input from (length input - from)
 
 -- what the line then has, where the input goes on, whether the line has ended
 pub data Fed : Type 0 where
-  fed : Said → ℕ → Bool → Fed
+  fed : (line : Said) (next : ℕ) (ended : Bool) → Fed
 
 -- the piece is said behind what the line has; what does not fit is dropped, and the line is then full
 unfoldable pub feed : List ℕ → ℕ → List ℕ → ℕ → Fed

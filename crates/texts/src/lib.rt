@@ -3,11 +3,11 @@ ghost use mathlib.Core.Path.{_≡_};
 ghost use Prim.Native.Nat.{_+_, _%_, _≤_, _<_, min};
 ghost use lib.ListN.{length};
 ghost use Rattle.words.specs.Words.{put};
-ghost use Rattle.texts.specs.Text.{isShown, digit, hexDigit, escapedByte, escaped, decimal, saying, said, fed, feed};
+ghost use Rattle.texts.specs.Text.{printsAsIs, digit, hexDigit, escapedByte, escaped, decimal, saying, said, fed, feed};
 
 // Whether a byte prints as it is.
-fn is_shown(b: u8) -> bool
-    ensures { λ r. ⌜ r ≡ isShown b ⌝ }
+fn prints_as_is(b: u8) -> bool
+    ensures { λ r. ⌜ r ≡ printsAsIs b ⌝ }
 {
     if b < 0x20 {
         return false;
@@ -33,7 +33,7 @@ fn put_escaped(buffer: &mut [u8], at: usize, b: u8) -> usize
     requires { ⌜ at + 4 ≤ length (now buffer) ⌝ }
     ensures { λ r. ⌜ (r ≡ at + length (escapedByte b)) × (r ≤ at + 4) × (now (buffer .exit) ≡ put (now (buffer .entry)) at (escapedByte b)) ⌝ }
 {
-    if is_shown(b) {
+    if prints_as_is(b) {
         buffer[at] = b;
         return at + 1;
     }

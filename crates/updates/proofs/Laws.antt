@@ -11,7 +11,7 @@ use lib.Dec.{leb}
 use lib.Seq.{ext-getD, getD-take, length-take-le}
 use Rattle.words.specs.Words.{part, firstIn, put}
 use Rattle.words.specs.Stores.{run}
-use Rattle.words.proofs.Laws.{bool-cases, part-length, first-low, first-high, put-length, put-same}
+use Rattle.words.proofs.Laws.{bool-cases, clash, part-length, first-low, first-high, put-length, put-same}
 use Rattle.words.proofs.StoreLaws.{run-append}
 use Rattle.layout.specs.declared.refusal.Refusal.{Refusal}
 use Rattle.layout.specs.declared.refusal.Verdict.{Verdict}
@@ -19,11 +19,12 @@ use Rattle.layout.specs.Layout.{serialField, slotField, slotSize, backupAt, bac
 use Rattle.layout.specs.Refusals.{leaves, noRefusal, numberOf, verdictNumber}
 use Rattle.property_info.specs.Entry.{isLong}
 use Rattle.property_info.specs.Written.{writeStores}
-use Rattle.property_area.specs.declared.lookup.Found.{Found}
-use Rattle.property_area.specs.Header.{headerOk}
+use Rattle.property_area.specs.declared.descent.Found.{Found}
+use Rattle.trie.specs.Header.{headerOk}
 use Rattle.property_area.specs.Find.{foundAnswer, findSteps}
 use Rattle.property_area.proofs.Promises.{found-ok}
-use Rattle.updates.specs.Update.{valueVerdict, backupStores, slotText, Snapshot, updateStores, updateEntry, foundNumber, updateSteps, rawEntry, rawSteps}
+use Rattle.updates.specs.Update.{valueVerdict, backupStores, slotText, updateStores, updateEntry, updateSteps, rawEntry, rawSteps}
+use Rattle.updates.specs.View.{Snapshot, foundNumber}
 
 -- ---- the value's test
 pub value-long : (value : List ℕ) → slotSize ≤ length value → Verdict.Refused Refusal.TooLong ≡ valueVerdict value
@@ -34,12 +35,17 @@ pub value-fine : (value : List ℕ) → length value < slotSize → Verdict.Acce
 unfolding valueVerdict
 value-fine value h = rw (lt-leb slotSize (length value) h)
 
-pub value-short : (value : List ℕ) (v : Verdict) → v ≡ valueVerdict value → v ≡ Verdict.Accepted → length value < slotSize
+pub value-short : (value : List ℕ) → valueVerdict value ≡ Verdict.Accepted → length value < slotSize
 unfolding valueVerdict
-value-short value v e f =
+value-short value f =
     bool-cases (leb slotSize (length value))
-    (λ t. let k : Verdict.Refused Refusal.TooLong ≡ Verdict.Accepted = sym (rw t at e) ∙ f in absurd (let q : _≡_ {A = ℕ} 0 1 = cc in omega arith))
+    (λ t. let k : Verdict.Refused Refusal.TooLong ≡ Verdict.Accepted = rw t at f in clash cc)
     (λ t. leb-false slotSize (length value) t)
+
+-- what is known of an entry and a new value once both are tested
+pub record Takes (area : List ℕ) (at : ℕ) (value : List ℕ) : Type 0 where
+  pub short : isLong area at ≡ false
+  pub fits : valueVerdict value ≡ Verdict.Accepted
 
 -- ---- the front of a buffer after a copy
 pub take-put : (s bs : List ℕ) → length bs ≤ length s → take (length bs) (put s 0 bs) ≡ bs
@@ -49,8 +55,8 @@ take-put s bs h =
     (λ k m. getD-take (length bs) (put s 0 bs) k 0 (omega arith) ∙ rw zero-add at (put-same s 0 bs k (omega arith) (omega arith)))
 
 -- ---- the value that a short entry shows: to is what the scan of the slot found
-pub shown-size : (area : List ℕ) (at : ℕ) → length (slotText area at) ≤ slotSize
-shown-size area at = simp length-take (omega (arith, first-high 0 area (placeOf at slotField) slotSize))
+pub slot-size : (area : List ℕ) (at : ℕ) → length (slotText area at) ≤ slotSize
+slot-size area at = simp length-take (omega (arith, first-high 0 area (placeOf at slotField) slotSize))
 
 module _ (area : List ℕ) (at to : ℕ) (e : to ≡ firstIn 0 area (placeOf at slotField) (placeOf at slotField + slotSize - placeOf at slotField)) where
   scanned : to ≡ firstIn 0 area (placeOf at slotField) slotSize
@@ -81,7 +87,7 @@ module _ (value : List ℕ) (size : ℕ) (buffer : List ℕ) (s : Snapshot value
   snapshot-within = omega (arith, snapshot-length, length-take size buffer)
 
 pub snapshot-small : (area : List ℕ) (at size : ℕ) (buffer : List ℕ) → Snapshot (slotText area at) size buffer → size ≤ slotSize
-snapshot-small area at size buffer s = omega (arith, s .measured, shown-size area at)
+snapshot-small area at size buffer s = omega (arith, s .measured, slot-size area at)
 
 -- ---- an entry updated by name: size is the old value's
 module _ (area value : List ℕ) (at : ℕ) where
@@ -89,26 +95,26 @@ module _ (area value : List ℕ) (at : ℕ) where
   unfolding updateEntry
   update-long h = rw h
 
-  module _ (h : isLong area at ≡ false) (v : Verdict) (e : v ≡ valueVerdict value) where
-    pub update-refused : (why : Refusal) → v ≡ Verdict.Refused why → leaves (verdictNumber v) area ≡ updateEntry area value at
+  pub update-refused : isLong area at ≡ false → (v : Verdict) → v ≡ valueVerdict value → (why : Refusal) → v ≡ Verdict.Refused why
+      → leaves (verdictNumber v) area ≡ updateEntry area value at
+  unfolding updateEntry
+  update-refused h v e why f = rw (h, ← e, f)
+
+  module _ (t : Takes area at value) (size : ℕ) (g : size ≡ length (slotText area at)) where
+    pub update-full : size ≡ slotSize → leaves (numberOf Refusal.TooLong) area ≡ updateEntry area value at
     unfolding updateEntry
-    update-refused why f = rw (h, ← e, f)
+    update-full k = rw (t .short, t .fits, ← g, eq-eqb size slotSize k)
 
-    module _ (f : v ≡ Verdict.Accepted) (size : ℕ) (g : size ≡ length (slotText area at)) where
-      pub update-full : size ≡ slotSize → leaves (numberOf Refusal.TooLong) area ≡ updateEntry area value at
+    module _ (k : size ≡ slotSize → ⊥) where
+      pub update-slotless : dataSize area < backupAt + size + 1 → leaves (numberOf Refusal.Damaged) area ≡ updateEntry area value at
       unfolding updateEntry
-      update-full k = rw (h, ← e, f, ← g, eq-eqb size slotSize k)
+      update-slotless l = rw (t .short, t .fits, ← g, ne-eqb size slotSize k, lt-ltb (dataSize area) (backupAt + size + 1) l)
 
-      module _ (k : size ≡ slotSize → ⊥) where
-        pub update-slotless : dataSize area < backupAt + size + 1 → leaves (numberOf Refusal.Damaged) area ≡ updateEntry area value at
-        unfolding updateEntry
-        update-slotless l = rw (h, ← e, f, ← g, ne-eqb size slotSize k, lt-ltb (dataSize area) (backupAt + size + 1) l)
-
-        pub update-done : backupAt + size + 1 ≤ dataSize area → (old mid after : List ℕ) → old ≡ slotText area at → mid ≡ run area (backupStores old)
-            → (serial : ℕ) → serial ≡ wordAt area at serialField → after ≡ run mid (writeStores at serial value) → leaves noRefusal after ≡ updateEntry area value at
-        unfolding updateEntry updateStores
-        update-done l old mid after o m serial s a =
-            rw (h, ← e, f, ← g, ne-eqb size slotSize k, le-ltb (dataSize area) (backupAt + size + 1) l, run-append area (backupStores (slotText area at)) (writeStores at (wordAt area at serialField) value), a, m, o, s)
+      pub update-done : backupAt + size + 1 ≤ dataSize area → (old mid after : List ℕ) → old ≡ slotText area at → mid ≡ run area (backupStores old)
+          → (serial : ℕ) → serial ≡ wordAt area at serialField → after ≡ run mid (writeStores at serial value) → leaves noRefusal after ≡ updateEntry area value at
+      unfolding updateEntry updateStores
+      update-done l old mid after o m serial s a =
+          rw (t .short, t .fits, ← g, ne-eqb size slotSize k, le-ltb (dataSize area) (backupAt + size + 1) l, run-append area (backupStores (slotText area at)) (writeStores at (wordAt area at serialField) value), a, m, o, s)
 
 -- ---- update by name: r is what find answered
 module _ (area name value : List ℕ) (r : Found) (e : foundAnswer r ≡ findSteps area name) where
@@ -135,15 +141,15 @@ module _ (area value : List ℕ) (at : ℕ) where
     unfolding rawEntry
     raw-long h = rw (t, h)
 
-    module _ (h : isLong area at ≡ false) (v : Verdict) (e : v ≡ valueVerdict value) where
-      pub raw-refused : (why : Refusal) → v ≡ Verdict.Refused why → leaves (verdictNumber v) area ≡ rawEntry area value at
-      unfolding rawEntry
-      raw-refused why f = rw (t, h, ← e, f)
+    pub raw-refused : isLong area at ≡ false → (v : Verdict) → v ≡ valueVerdict value → (why : Refusal) → v ≡ Verdict.Refused why
+        → leaves (verdictNumber v) area ≡ rawEntry area value at
+    unfolding rawEntry
+    raw-refused h v e why f = rw (t, h, ← e, f)
 
-      pub raw-done : v ≡ Verdict.Accepted → (serial : ℕ) → serial ≡ wordAt area at serialField → (after : List ℕ) → after ≡ run area (writeStores at serial value)
-          → leaves noRefusal after ≡ rawEntry area value at
-      unfolding rawEntry
-      raw-done f serial s after a = rw (t, h, ← e, f, a, s)
+    pub raw-done : Takes area at value → (serial : ℕ) → serial ≡ wordAt area at serialField → (after : List ℕ) → after ≡ run area (writeStores at serial value)
+        → leaves noRefusal after ≡ rawEntry area value at
+    unfolding rawEntry
+    raw-done k serial s after a = rw (t, k .short, k .fits, a, s)
 
 -- ---- raw update
 module _ (area : List ℕ) (at : ℕ) (backup value : List ℕ) where

@@ -1,2 +1,4 @@
 pub mod Laws
+pub mod Keeping
+pub mod BackupLaws
 pub mod Promises

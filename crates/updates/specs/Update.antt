@@ -1,21 +1,19 @@
 -- Update by name and raw update (document 01).
 use Prim.Native.Nat.{ℕ, _+_}
-use mathlib.Core.Path.{_≡_}
 use mathlib.Core.Bool.{Bool, cond}
 use mathlib.Core.List.{List, _++_}
-use lib.ListN.{length, take}
+use lib.ListN.{length}
 use lib.Dec.{eqb, leb, ltb}
 use Rattle.words.specs.Words.{part}
 use Rattle.words.specs.Stores.{Store, run, textStores}
 use Rattle.layout.specs.declared.refusal.Refusal.{Refusal}
 use Rattle.layout.specs.declared.refusal.Verdict.{Verdict}
 use Rattle.layout.specs.Layout.{serialField, slotField, slotSize, backupAt, backupSize, dataSize, byteOf, placeOf, wordAt, entryOk}
-use Rattle.layout.specs.Refusals.{Answer, accepted, refused, noRefusal, numberOf, byVerdict, Outcome, leaves, acceptLeaving, refuseLeaving}
+use Rattle.layout.specs.Refusals.{guard, byVerdict, Outcome, leaves, acceptLeaving, refuseLeaving}
 use Rattle.property_info.specs.Entry.{isLong, slotEnd}
 use Rattle.property_info.specs.Written.{writeStores}
-use Rattle.property_area.specs.declared.lookup.Found.{Found}
-use Rattle.property_area.specs.Header.{headerOk}
-use Rattle.property_area.specs.Find.{Hit, hit, findSteps}
+use Rattle.trie.specs.Header.{headerOk}
+use Rattle.property_area.specs.Find.{byHit, findSteps}
 
 -- new value of 92 bytes or more: 6
 unfoldable pub valueVerdict : List ℕ → Verdict
@@ -33,11 +31,6 @@ backupStores backup = textStores (byteOf backupAt) backup
 abbrev pub slotText : List ℕ → ℕ → List ℕ
 slotText area at = part area (placeOf at slotField) (slotEnd area at)
 
--- a copy of it: its length, and as many bytes at the front of the buffer
-pub record Snapshot (value : List ℕ) (size : ℕ) (buffer : List ℕ) : Type 0 where
-  pub measured : size ≡ length value
-  pub copied : take size buffer ≡ value
-
 -- the serial is the one read before any store
 unfoldable pub updateStores : List ℕ → ℕ → List ℕ → List Store
 updateStores area at value = backupStores (slotText area at) ++ writeStores at (wordAt area at serialField) value
@@ -45,40 +38,28 @@ updateStores area at value = backupStores (slotText area at) ++ writeStores at (
 -- long entry: 7; the new value's test; current value of 92 bytes: 6; 21 + old length above data size: 5
 unfoldable pub updateEntry : List ℕ → List ℕ → ℕ → Outcome
 updateEntry area value at =
-    cond (isLong area at)
-    (refuseLeaving area Refusal.LongEntry)
+    cond (isLong area at) (refuseLeaving area Refusal.LongEntry)
     (byVerdict (valueVerdict value) (refuseLeaving area)
-    (cond (eqb (length (slotText area at)) slotSize)
-    (refuseLeaving area Refusal.TooLong)
-    (cond (backupPastArea area (slotText area at)) (refuseLeaving area Refusal.Damaged) (acceptLeaving (run area (updateStores area at value))))))
+    (cond (eqb (length (slotText area at)) slotSize) (refuseLeaving area Refusal.TooLong)
+    (cond (backupPastArea area (slotText area at)) (refuseLeaving area Refusal.Damaged)
+    (acceptLeaving (run area (updateStores area at value))))))
 
 -- find; unless the search names a node, its refusal
-abbrev pub byHit : List ℕ → Answer Hit → (ℕ → Outcome) → Outcome
-byHit area (accepted (hit offset compared)) on = on offset
-byHit area (refused number) on = leaves number area
-
--- the number of each case of find's answer
-abbrev pub foundNumber : Found → ℕ
-foundNumber (Found.Entry offset compared) = noRefusal
-foundNumber (Found.Refused why) = numberOf why
-
 unfoldable pub updateSteps : List ℕ → List ℕ → List ℕ → Outcome
-updateSteps area name value = byHit area (findSteps area name) (updateEntry area value)
+updateSteps area name value = byHit (λ number. leaves number area) (updateEntry area value) (findSteps area name)
 
 -- raw update, once the backup is stored: touch the entry 5; read the serial; long 7; value of 92 or more 6; serials and value stored
 unfoldable pub rawEntry : List ℕ → List ℕ → ℕ → Outcome
 rawEntry area value at =
-    cond (entryOk area at)
-    (cond (isLong area at)
-    (refuseLeaving area Refusal.LongEntry)
-    (byVerdict (valueVerdict value) (refuseLeaving area) (acceptLeaving (run area (writeStores at (wordAt area at serialField) value)))))
-    (refuseLeaving area Refusal.Damaged)
+    guard (entryOk area at) (refuseLeaving area Refusal.Damaged)
+    (cond (isLong area at) (refuseLeaving area Refusal.LongEntry)
+    (byVerdict (valueVerdict value) (refuseLeaving area)
+    (acceptLeaving (run area (writeStores at (wordAt area at serialField) value)))))
 
 -- 8; backup of 92 or more 6; 21 + backup length above data size 5; store the backup and a zero
 unfoldable pub rawSteps : List ℕ → ℕ → List ℕ → List ℕ → Outcome
 rawSteps area at backup value =
-    cond (headerOk area)
-    (cond (leb backupSize (length backup))
-    (refuseLeaving area Refusal.TooLong)
-    (cond (backupPastArea area backup) (refuseLeaving area Refusal.Damaged) (rawEntry (run area (backupStores backup)) value at)))
-    (refuseLeaving area Refusal.BadHeader)
+    guard (headerOk area) (refuseLeaving area Refusal.BadHeader)
+    (cond (leb backupSize (length backup)) (refuseLeaving area Refusal.TooLong)
+    (cond (backupPastArea area backup) (refuseLeaving area Refusal.Damaged)
+    (rawEntry (run area (backupStores backup)) value at)))

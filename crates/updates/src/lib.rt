@@ -5,7 +5,8 @@ ghost use lib.ListN.{length};
 ghost use Rattle.words.specs.Stores.{run};
 ghost use Rattle.layout.specs.Layout.{slotSize, backupAt, Within, EntryIn};
 ghost use Rattle.layout.specs.Refusals.{leaves, verdictNumber};
-ghost use Rattle.updates.specs.Update.{valueVerdict, backupStores, slotText, Snapshot, updateEntry, foundNumber, updateSteps, rawEntry, rawSteps};
+ghost use Rattle.updates.specs.Update.{valueVerdict, backupStores, slotText, updateEntry, updateSteps, rawEntry, rawSteps};
+ghost use Rattle.updates.specs.View.{Snapshot, foundNumber};
 use layout::Backup;
 use layout::Entry;
 use layout::Header;
@@ -13,7 +14,7 @@ use layout::Refusal;
 use layout::Verdict;
 use property_area::Found;
 
-// Whether a slot holds a value and its zero.
+// Whether a slot holds a value and its zero: 92 bytes are already too long, since the slot ends with the zero.
 fn value_verdict(value: &[u8]) -> Verdict
     ensures { λ r. ⌜ r ≡ valueVerdict (now (value .entry)) ⌝ }
 {
@@ -31,7 +32,7 @@ fn set_dirty_backup_area(area: &mut [u8], backup: &[u8])
     words::put_text(area, Header::SIZE + Backup::AT, backup);
 }
 
-// Copies the value that a short entry shows; its length is the answer.
+// Copies aside the value that a short entry shows; its length is the answer.
 fn snapshot(area: &[u8], entry: Entry, old: &mut [u8]) -> usize
     requires { ⌜ (EntryIn (now area) (entry .at)) × (slotSize ≤ length (now old)) ⌝ }
     ensures { λ r. ⌜ Snapshot (slotText (now (area .entry)) (entry .at)) r (now (old .exit)) ⌝ }
@@ -42,7 +43,7 @@ fn snapshot(area: &[u8], entry: Entry, old: &mut [u8]) -> usize
     to - from
 }
 
-// Updates the entry that find found. The serial is read before any store.
+// Updates the entry that find found.
 fn update_entry(area: &mut [u8], entry: Entry, value: &[u8]) -> Verdict
     requires { ⌜ EntryIn (now area) (entry .at) ⌝ }
     ensures { λ r. ⌜ leaves (verdictNumber r) (now (area .exit)) ≡ updateEntry (now (area .entry)) (now (value .entry)) (entry .at) ⌝ }
@@ -54,6 +55,7 @@ fn update_entry(area: &mut [u8], entry: Entry, value: &[u8]) -> Verdict
     let Verdict::Accepted = fits else {
         return fits;
     };
+    // Serial and old value are read before any store: in a damaged area the entry may lie across the backup slot.
     let serial = entry.serial(area);
     let mut old = [0u8; Entry::VALUE_MAX];
     let size = snapshot(area, entry, &mut old);
@@ -63,6 +65,7 @@ fn update_entry(area: &mut [u8], entry: Entry, value: &[u8]) -> Verdict
     if layout::data_size(area) < Backup::AT + size + 1 {
         return Verdict::Refused(Refusal::Damaged);
     }
+    // The backup is stored before the serial turns dirty: whoever sees it dirty reads the backup slot.
     set_dirty_backup_area(area, &old[..size]);
     property_info::apply_write(area, entry, serial, value);
     Verdict::Accepted
@@ -125,7 +128,7 @@ fn raw_entry(area: &mut [u8], entry: Entry, value: &[u8]) -> Verdict
 pub fn backup_and_apply_write(area: &mut [u8], offset: u32, backup: &[u8], value: &[u8]) -> Verdict
     ensures { λ r. ⌜ leaves (verdictNumber r) (now (area .exit)) ≡ rawSteps (now (area .entry)) offset (now (backup .entry)) (now (value .entry)) ⌝ }
 {
-    if !property_area::header_ok(area) {
+    if !trie::header_ok(area) {
         return Verdict::Refused(Refusal::BadHeader);
     }
     if Backup::SIZE <= backup.len() {

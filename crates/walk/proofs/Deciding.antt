@@ -7,7 +7,7 @@ use mathlib.Core.Bool.{true, false≢true}
 use mathlib.Core.List.{List, []}
 use lib.ListN.{length, getD}
 use Rattle.layout.specs.Layout.{wordSize, firstFree, byteOf}
-use Rattle.property_area.proofs.HeaderLaws.{header-max}
+use Rattle.trie.proofs.HeaderLaws.{header-max}
 use Rattle.sound.specs.Tree.{Tree, listed}
 use Rattle.sound.specs.Sound.{Front, Room, Sound}
 use Rattle.sound.specs.Ways.{toBelow, toRight, nodes}
@@ -84,7 +84,7 @@ module _ (area : List ℕ) (used : ℕ) where
     pub walks : used ≤ 4 * length marks → (tree : Tree) → Sound area used tree
         → (ended (walkAt area used marks (stepsMax area)) ≡ true) × (entriesOf (walkAt area used marks (stepsMax area)) ≡ listed tree)
     walks marked tree S =
-        let G = goes area used (F .low) (F .aligned) small tree marks 0 toBelow 0 [] (record {
+        let G = goes area used (F .low) small tree marks 0 toBelow 0 [] (record {
           linked = S .top;
           bytes = S .bytes;
           rule = S .rule;

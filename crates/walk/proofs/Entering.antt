@@ -6,7 +6,9 @@ use mathlib.Core.Bool.{Bool, true, false, cond, _&&_, and-eq-true-iff}
 use mathlib.Core.List.{List, [], _∷_}
 use lib.Dec.{eqb, leb, ltb}
 use borrow.Author.Tests.{lt-ltb, ltb-true}
-use Rattle.layout.specs.Layout.{wordSize, entrySize, serialField, slotField, longOffsetField, longBit, namelenField, propField, byteOf, placeOf, wordAt, nodeTakes}
+use Rattle.words.proofs.Laws.{clash}
+use Rattle.layout.specs.Layout.{wordSize, entrySize, slotField, longOffsetField, namelenField, propField, byteOf, placeOf, wordAt, nodeTakes}
+use Rattle.property_info.specs.Entry.{isLong}
 use Rattle.sound.specs.Ways.{Dir, toLeft, toBelow, toRight}
 use Rattle.sound.specs.Tree.{inside}
 use Rattle.walk.specs.Marks.{canTake, fill}
@@ -45,7 +47,7 @@ pub record Entered (area : List ℕ) (used : ℕ) (marks after : List ℕ) (link
 
 cond-taken : (t : Bool) (x after : List ℕ) → cond t (taken x) refused ≡ taken after → (t ≡ true) × (x ≡ after)
 cond-taken true x after e = (refl, (cc))
-cond-taken false x after e = absurd (let z : _≡_ {A = ℕ} 0 1 = cc in omega arith)
+cond-taken false x after e = clash cc
 
 module _ (area : List ℕ) (used : ℕ) (marks : List ℕ) (link p : ℕ) (dir : Dir) where
   abbrev room : ℕ
@@ -87,7 +89,7 @@ abbrev Grows : List ℕ → Done (List ℕ) → Type 0
 Grows marks result = (after es : List ℕ) → result ≡ done after es → Grew marks after
 
 grows-halt : (marks : List ℕ) → Grows marks halt
-grows-halt marks after es e = absurd (let z : _≡_ {A = ℕ} 0 1 = cc in omega arith)
+grows-halt marks after es e = clash cc
 
 grows-done : (marks next fs : List ℕ) → Grew marks next → Grows marks (done next fs)
 grows-done marks next fs g after es e = let q : next ≡ after = cc in subst (λ (m : List ℕ). Grew marks m) q g
@@ -115,11 +117,11 @@ module _ (area : List ℕ) (used : ℕ) where
   unfolding valueWork
   value-grows marks at k =
       let far : ℕ = at + wordAt area at longOffsetField in
-      grows-cond marks (eqb (wordAt area at serialField / longBit % 2) 0) (shortWork area marks at) _
-      (λ s. short-grows marks at)
-      (grows-cond marks (leb (k * wordSize) (wordAt area at longOffsetField)) (longWork area used marks at far (textEnd area used far (byteOf far))) halt
+      grows-cond marks (isLong area at) _ (shortWork area marks at)
+      (λ s. grows-cond marks (leb (k * wordSize) (wordAt area at longOffsetField)) (longWork area used marks at far (textEnd area used far (byteOf far))) halt
       (λ t. long-grows marks at far (textEnd area used far (byteOf far)))
       (grows-halt marks))
+      (short-grows marks at)
 
   named-grows : (marks : List ℕ) (n at end : ℕ) → Grows marks (namedWork area used marks n at end)
   named-grows marks n at end =

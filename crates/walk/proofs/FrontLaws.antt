@@ -7,7 +7,7 @@ use mathlib.Core.List.{List}
 use lib.Dec.{eqb}
 use borrow.Author.Tests.{eq-eqb, eqb-true, le-leb, leb-true}
 use Rattle.layout.specs.Layout.{wordSize, usedField, namelenField, propField, leftField, rightField, rootAt, firstFree, dataSize, headerWord, wordAt}
-use Rattle.property_area.specs.Header.{headerOk}
+use Rattle.trie.specs.Header.{headerOk}
 use Rattle.sound.specs.Sound.{Front}
 use Rattle.walk.specs.Model.{frontOk}
 

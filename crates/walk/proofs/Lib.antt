@@ -10,5 +10,7 @@ pub mod WorksBack
 pub mod MachineLaws
 pub mod FrontLaws
 pub mod Made
+pub mod Standing
 pub mod Passing
 pub mod Deciding
+pub mod Promises

@@ -13,7 +13,7 @@ use Rattle.words.specs.Words.{put}
 use Rattle.words.proofs.Laws.{bool-cases, put-length, put-before, put-after, put-same}
 use Rattle.layout.specs.Layout.{headerSize, wordSize, firstFree, byteOf}
 use Rattle.sound.specs.Tree.{inside}
-use Rattle.sound.proofs.Inside.{inside-yes, inside-below, inside-above}
+use Rattle.sound.proofs.Inside.{inside-yes, inside-below, inside-above, inside-between}
 use Rattle.walk.specs.Marks.{all, isZero, canTake, fill}
 use Rattle.walk.proofs.Growing.{Grew}
 
@@ -152,3 +152,12 @@ can-at marks at k size aligned long room h =
           inside-yes (byteOf at) size (byteOf (4 * w)) (omega arith) (omega arith),
           counted-taken marks (byteOf (4 * w)) (λ z. eqb-false (getD marks w 0) 0 e (ap (λ (j : ℕ). getD marks j 0) (sym back) ∙ z)),
         )
+
+-- ---- bytes within the room lie between 112 and the used mark
+pub lies-between : (used : ℕ) → firstFree ≤ used → (at size : ℕ) → 0 < size → ((i : ℕ) → inside (byteOf at) size i ≤ inside (byteOf firstFree) (used - firstFree) i)
+    → (firstFree ≤ at) × (at + size ≤ used)
+lies-between used low at size some within =
+    let e : byteOf used - byteOf firstFree ≡ used - firstFree = omega arith in
+    let b = inside-between (byteOf at) size (byteOf firstFree) (byteOf used) (omega arith) (omega (arith, low))
+    (λ i. rw e (within i)) in
+    (omega (arith, b .0), omega (arith, b .1))

@@ -1,5 +1,5 @@
 -- A tree that stands in the area and is as it ought to be, over words that are free, is walked: four steps a node, its entries listed.
-use Prim.Native.Nat.{ℕ, zero, suc, _+_, _-_, _*_, _/_, _%_, _≤_, _<_}
+use Prim.Native.Nat.{ℕ, zero, suc, _+_, _-_, _*_, _/_, _≤_, _<_}
 use native.Mathlib.Omega.{arith}
 use mathlib.Core.Path.{_≡_, refl, sym, ap, subst, _∙_}
 use mathlib.Core.Logic.{_≢_}
@@ -9,74 +9,28 @@ use lib.ListN.{length, getD}
 use Rattle.names.specs.Names.{dot, segmentOrder}
 use Rattle.names.specs.declared.Order.the-variants.{Less, Greater}
 use Rattle.names.proofs.OrderLaws.{order-greater-flip}
-use Rattle.layout.specs.Layout.{wordSize, nodeSize, namelenField, firstFree, byteOf, placeOf, wordAt, nodeTakes}
+use Rattle.layout.specs.Layout.{wordSize, namelenField, firstFree, byteOf, wordAt, nodeTakes}
 use Rattle.sound.specs.Tree.{Entry, Tree, leaf, node, link, entryLink, listed, listedOwn, inside, entryCover, cover}
 use Rattle.sound.specs.Sound.{nodeWords, NodeAt, EntryAt, TreeAt, Without, NodeRule, EntryRule, Side, TreeRule}
 use Rattle.sound.specs.Ways.{Dir, toLeft, toBelow, toRight, nodes}
-use Rattle.sound.proofs.Inside.{inside-between}
-use Rattle.sound.proofs.Holding.{text-bytes, text-zero, without-append}
+use Rattle.sound.proofs.Holding.{without-append}
 use Rattle.walk.specs.Marks.{canTake}
 use Rattle.walk.specs.Machine.{taken, done}
-use Rattle.walk.specs.Model.{linkAt, placeAt, nameAt, span, nodeRoom, enterAt, ownWork, parentAt, cameAt}
+use Rattle.walk.specs.Model.{placeAt, nameAt, nodeRoom, enterAt, ownWork}
 use Rattle.walk.proofs.Growing.{Grew, grew-refl, grew-trans, numberMax, Owned, owned-grew, Prefix, more, prefix-grew}
-use Rattle.walk.proofs.MarkLaws.{counted, can-at}
+use Rattle.walk.proofs.MarkLaws.{counted, can-at, lies-between}
 use Rattle.walk.proofs.NodeLaws.{NodeFits, room-of}
 use Rattle.walk.proofs.Entering.{Entered, entered-inv, enter-of, own-grew}
-use Rattle.walk.proofs.Scanning.{holds-span}
 use Rattle.walk.proofs.WorksBack.{Worked, own-done}
-use Rattle.walk.proofs.Made.{Under, under-left, under-below, under-right, under-entered}
-use Rattle.walk.proofs.MachineLaws.{Shape, tip, fork, steps, Walked, none, some}
+use Rattle.walk.proofs.Made.{under-left, under-below, under-right, under-entered}
+use Rattle.walk.proofs.Standing.{Can, Goes, Goer, fits-of, node-first, node-named}
+use Rattle.walk.proofs.MachineLaws.{tip, fork, steps, none, some}
 
--- what the walk of a tree needs
-pub record Can (area : List ℕ) (used : ℕ) (marks : List ℕ) (p : ℕ) (dir : Dir) (before : ℕ) (prefix : List ℕ) (tree : Tree) : Type 0 where
-  pub linked : linkAt area dir p ≡ link tree
-  pub bytes : TreeAt area tree
-  pub rule : TreeRule prefix tree
-  pub near : p ≤ numberMax
-  pub under : Under area marks p dir prefix
-  pub clean : Without 0 prefix
-  pub free : (i : ℕ) → counted marks i + cover tree i ≤ 1
-  pub within : (i : ℕ) → cover tree i ≤ inside (byteOf firstFree) (used - firstFree) i
-  pub marked : used ≤ 4 * length marks
-  pub order : before ≢ 0 → Side Greater (nameAt area before) tree
-
--- what it leaves
-pub record Goes (area : List ℕ) (used : ℕ) (marks : List ℕ) (p : ℕ) (dir : Dir) (before : ℕ) (tree : Tree) : Type 0 where
-  pub shape : Shape
-  pub after : List ℕ
-  pub last : ℕ
-  pub walked : Walked (List ℕ) (linkAt area) placeAt (enterAt area used) (ownWork area used) parentAt cameAt shape marks p dir before after last (listed tree)
-  pub count : (i : ℕ) → counted after i ≡ counted marks i + cover tree i
-  pub grew : Grew marks after
-  pub least : (x : List ℕ) → (before ≢ 0 → segmentOrder (nameAt area before) x ≡ Less) → Side Less x tree → last ≢ 0 → segmentOrder (nameAt area last) x ≡ Less
-  pub taking : (k : ℕ) → steps shape k ≡ 4 * nodes tree + k
-
-abbrev Goer : List ℕ → ℕ → Tree → Type 0
-Goer area used tree = (marks : List ℕ) (p : ℕ) (dir : Dir) (before : ℕ) (prefix : List ℕ) → Can area used marks p dir before prefix tree → Goes area used marks p dir before tree
-
-module _ (area : List ℕ) (used : ℕ) (low : firstFree ≤ used) (aligned : used % wordSize ≡ 0) (small : used ≤ 4 * numberMax) where
+module _ (area : List ℕ) (used : ℕ) (low : firstFree ≤ used) (small : used ≤ 4 * numberMax) where
   leaf-goes : Goer area used leaf
   unfolding link cover listed nodes
   leaf-goes marks p dir before prefix C =
       record { shape = tip; after = marks; last = before; walked = none (C .linked); count = λ i. omega arith; grew = grew-refl marks; least = λ x f h. f; taking = λ k. omega arith }
-
-  -- a node's own bytes fit
-  fits-of : (at : ℕ) (name words : List ℕ) → NodeRule at name → NodeAt area at name (length name ∷ words) → firstFree ≤ at → at + nodeTakes (length name) ≤ used
-      → NodeFits area used at × (wordAt area at namelenField ≡ length name)
-  fits-of at name words K N from to =
-      let e : wordAt area at namelenField ≡ length name = N .fields 0 (omega arith) in
-      let b = text-bytes area (placeOf at nodeSize) name (N .text) in (
-        record {
-          aligned = K .aligned;
-          low = from;
-          some = omega (arith, e, K .some);
-          high = omega (arith, e, to);
-          whole = λ k h z. (let l : k < length name = omega (arith, e, h) in K .whole k l (sym (b k l) ∙ z));
-          plain = λ k h z. (let l : k < length name = omega (arith, e, h) in K .plain k l (sym (b k l) ∙ z));
-          zero = ap (λ (j : ℕ). getD area (placeOf at nodeSize + j) 0) e ∙ text-zero area (placeOf at nodeSize) name (N .text);
-        },
-        e,
-      )
 
   -- node q + 1, with its parts
   module _ (q : ℕ) (own : Entry) (left below right : Tree) (gl : Goer area used left) (gb : Goer area used below) (gr : Goer area used right)
@@ -109,13 +63,10 @@ module _ (area : List ℕ) (used : ℕ) (low : firstFree ≤ used) (aligned : us
     ordered h = C .order h
 
     between : (firstFree ≤ n * wordSize) × (n * wordSize + nodeTakes (length name) ≤ used)
-    between =
-        let b = inside-between (byteOf (n * wordSize)) (nodeTakes (length name)) (byteOf firstFree) (byteOf used) (omega arith) (omega (arith, low))
-        (λ i. let e : byteOf used - byteOf firstFree ≡ used - firstFree = omega arith in subst (λ (v : ℕ). inside (byteOf (n * wordSize)) (nodeTakes (length name)) i ≤ inside (byteOf firstFree) v i) (sym e) (omega (arith, within i))) in
-        (omega (arith, b .0), omega (arith, b .1))
+    between = lies-between used low (n * wordSize) (nodeTakes (length name)) (omega arith) (λ i. omega (arith, within i))
 
     fits : NodeFits area used (n * wordSize) × (wordAt area (n * wordSize) namelenField ≡ length name)
-    fits = fits-of (n * wordSize) name (entryLink own ∷ link left ∷ link right ∷ link below ∷ []) (rules .0) (stands .0) (between .0) (between .1)
+    fits = fits-of area used (n * wordSize) name (entryLink own ∷ link left ∷ link right ∷ link below ∷ []) (rules .0) (stands .0) (between .0) (between .1)
 
     near : n ≤ numberMax
     near = omega (arith, between .1, small)
@@ -254,27 +205,11 @@ module _ (area : List ℕ) (used : ℕ) (low : firstFree ≤ used) (aligned : us
     node-goes-at : Goes area used marks p dir before (node (n * wordSize) name own left below right)
     node-goes-at = let e = enter-of area used marks l p dir fits-there can in worked (e .0) (e .1)
 
-  -- a node's offset and name are those of some node number
-  node-first : (at : ℕ) (name : List ℕ) (own : Entry) (left below right : Tree) → ((i : ℕ) → cover (node at name own left below right) i ≤ inside (byteOf firstFree) (used - firstFree) i)
-      → (prefix : List ℕ) → TreeRule prefix (node at name own left below right) → at ≡ suc (at / wordSize - 1) * wordSize
-  unfolding cover TreeRule
-  node-first at name own left below right h prefix r =
-      let b = inside-between (byteOf at) (nodeTakes (length name)) (byteOf firstFree) (byteOf used) (omega arith) (omega (arith, low))
-      (λ i. let e : byteOf used - byteOf firstFree ≡ used - firstFree = omega arith in subst (λ (v : ℕ). inside (byteOf at) (nodeTakes (length name)) i ≤ inside (byteOf firstFree) v i) (sym e) (omega (arith, h i))) in
-      omega (arith, b .0, r .0 .aligned)
-
-  node-named : (at : ℕ) (name : List ℕ) (own : Entry) (left below right : Tree) (n : ℕ) → TreeAt area (node at name own left below right) → at ≡ n * wordSize → name ≡ nameAt area n
-  unfolding TreeAt nameAt
-  node-named at name own left below right n h e =
-      let k : wordAt area at namelenField ≡ length name = h .0 .fields 0 (omega arith) in
-      sym (holds-span area (placeOf at nodeSize) name (text-bytes area (placeOf at nodeSize) name (h .0 .text)))
-      ∙ ap (span area (placeOf at nodeSize)) (sym k) ∙ ap (λ (v : ℕ). span area (placeOf v nodeSize) (wordAt area v namelenField)) e
-
   node-goes : (at : ℕ) (name : List ℕ) (own : Entry) (left below right : Tree) → Goer area used left → Goer area used below → Goer area used right → Goer area used (node at name own left below right)
   node-goes at name own left below right gl gb gr marks p dir before prefix C =
       let q : ℕ = at / wordSize - 1 in
-      let e : at ≡ suc (at / wordSize - 1) * wordSize = node-first at name own left below right (C .within) prefix (C .rule) in
-      let f : name ≡ nameAt area (suc (at / wordSize - 1)) = node-named at name own left below right (suc (at / wordSize - 1)) (C .bytes) e in
+      let e : at ≡ suc (at / wordSize - 1) * wordSize = node-first area used low at name own left below right (C .within) prefix (C .rule) in
+      let f : name ≡ nameAt area (suc (at / wordSize - 1)) = node-named area used at name own left below right (suc (at / wordSize - 1)) (C .bytes) e in
       subst (λ (v : List ℕ). Goes area used marks p dir before (node at v own left below right)) (sym f)
       (subst (λ (v : ℕ). Goes area used marks p dir before (node v (nameAt area (suc (at / wordSize - 1))) own left below right)) (sym e)
       (node-goes-at (at / wordSize - 1) own left below right gl gb gr marks p dir before prefix

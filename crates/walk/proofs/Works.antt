@@ -7,12 +7,15 @@ use mathlib.Core.Bool.{Bool, true, false, cond, _&&_, false≢true, and-eq-true-
 use mathlib.Core.List.{List, [], _∷_, _++_}
 use lib.Dec.{eqb, leb, ltb}
 use lib.ListN.{length, getD}
-use borrow.Author.Tests.{eqb-true, eqb-false, leb-true, ltb-true}
-use Rattle.words.proofs.Laws.{bool-cases}
+use borrow.Author.Tests.{eqb-true, leb-true, ltb-true}
+use Rattle.words.proofs.Laws.{bool-cases, clash}
 use Rattle.names.specs.Names.{segmentOrder}
 use Rattle.names.specs.declared.Order.{Order}
 use Rattle.names.specs.declared.Order.the-variants.{Less, Equal, Greater}
-use Rattle.layout.specs.Layout.{wordSize, propField, entrySize, serialField, slotField, slotSize, longOffsetField, longBit, firstFree, byteOf, placeOf, wordAt, entryTakes, valueTakes}
+use Rattle.layout.specs.Layout.{wordSize, propField, entrySize, serialField, slotField, slotSize, longOffsetField, firstFree, byteOf, placeOf, wordAt, entryTakes, valueTakes}
+use Rattle.property_info.specs.Serial.{longIn}
+use Rattle.property_info.specs.Entry.{isLong}
+use Rattle.property_info.proofs.Laws.{long-says, short-says}
 use Rattle.sound.specs.Tree.{Value, short, long, Entry, bare, entry, entryLink, listedOwn, inside, valueCover, entryCover}
 use Rattle.sound.specs.Sound.{Holds, ValueAt, EntryAt, ValueRule, EntryRule}
 use Rattle.sound.proofs.Inside.{inside-part}
@@ -27,7 +30,7 @@ use Rattle.walk.proofs.Paths.{path-is}
 
 cond-done : (t : Bool) (x : Done (List ℕ)) (after es : List ℕ) → cond t x halt ≡ done after es → (t ≡ true) × (x ≡ done after es)
 cond-done true x after es h = (refl, h)
-cond-done false x after es h = absurd (let z : _≡_ {A = ℕ} 0 1 = cc in omega arith)
+cond-done false x after es h = clash cc
 
 -- no byte of an object stands where no object may
 outside : (used at size i : ℕ) → firstFree ≤ at → at + size ≤ used → inside (byteOf firstFree) (used - firstFree) i ≡ 0 → inside (byteOf at) size i ≡ 0
@@ -43,7 +46,7 @@ record ValueIn (area : List ℕ) (used : ℕ) (marks after : List ℕ) (at : ℕ
   grew : Grew marks after
 
 module _ (area : List ℕ) (used : ℕ) (whole : used % wordSize ≡ 0) where
-  short-in : (marks : List ℕ) (at : ℕ) (name : List ℕ) → wordAt area at serialField / longBit % 2 ≡ 0
+  short-in : (marks : List ℕ) (at : ℕ) (name : List ℕ) → longIn (wordAt area at serialField) ≡ 0
       → endOf area (placeOf at slotField) (placeOf at entrySize) < placeOf at entrySize → ValueIn area used marks marks at name
   unfolding ValueAt ValueRule valueCover
   short-in marks at name s h =
@@ -61,7 +64,7 @@ module _ (area : List ℕ) (used : ℕ) (whole : used % wordSize ≡ 0) where
         grew = grew-refl marks;
       }
 
-  long-in : (marks : List ℕ) (at far stop : ℕ) (name : List ℕ) → wordAt area at serialField / longBit % 2 ≡ 1 → at + wordAt area at longOffsetField ≡ far
+  long-in : (marks : List ℕ) (at far stop : ℕ) (name : List ℕ) → longIn (wordAt area at serialField) ≡ 1 → at + wordAt area at longOffsetField ≡ far
       → at + entryTakes (length name) ≤ far → TextFits area used far (byteOf far) stop → canTake marks (far / wordSize) (roomTo far stop) ≡ true
       → ValueIn area used marks (fill marks (far / wordSize) (roomTo far stop)) at name
   unfolding ValueAt ValueRule valueCover
@@ -80,11 +83,8 @@ module _ (area : List ℕ) (used : ℕ) (whole : used % wordSize ≡ 0) where
   value-in : (marks after es : List ℕ) (at k : ℕ) (name : List ℕ) → 4 * k ≡ entryTakes (length name) → valueWork area used marks at k ≡ done after es
       → ValueIn area used marks after at name × (es ≡ at ∷ [])
   unfolding valueWork
-  value-in marks after es at k name size h = bool-cases (eqb serial 0) as-short as-long
+  value-in marks after es at k name size h = bool-cases (isLong area at) as-long as-short
     where
-      serial : ℕ
-      serial = wordAt area at serialField / longBit % 2
-
       off : ℕ
       off = wordAt area at longOffsetField
 
@@ -94,17 +94,17 @@ module _ (area : List ℕ) (used : ℕ) (whole : used % wordSize ≡ 0) where
       stop : ℕ
       stop = textEnd area used far (byteOf far)
 
-      as-short : eqb serial 0 ≡ true → ValueIn area used marks after at name × (es ≡ at ∷ [])
+      as-short : isLong area at ≡ false → ValueIn area used marks after at name × (es ≡ at ∷ [])
       as-short e =
           let t = cond-done (ltb (endOf area (placeOf at slotField) (placeOf at entrySize)) (placeOf at entrySize)) (done marks (at ∷ [])) after es (rw e at h) in
           let q : done marks (at ∷ []) ≡ done after es = t .1 in
           let m : marks ≡ after = cc in (
             subst (λ (x : List ℕ). ValueIn area used marks x at name) m
-                (short-in marks at name (eqb-true serial 0 e) (ltb-true (endOf area (placeOf at slotField) (placeOf at entrySize)) (placeOf at entrySize) (t .0))),
+                (short-in marks at name (short-says area at (wordAt area at serialField) refl e) (ltb-true (endOf area (placeOf at slotField) (placeOf at entrySize)) (placeOf at entrySize) (t .0))),
             cc,
           )
 
-      as-long : eqb serial 0 ≡ false → ValueIn area used marks after at name × (es ≡ at ∷ [])
+      as-long : isLong area at ≡ true → ValueIn area used marks after at name × (es ≡ at ∷ [])
       as-long e =
           let t = cond-done (leb (k * wordSize) off) (longWork area used marks at far stop) after es (rw e at h) in
           let u = cond-done (ltb 0 stop && canTake marks (far / wordSize) (roomTo far stop)) (done (fill marks (far / wordSize) (roomTo far stop)) (at ∷ [])) after es (t .1) in
@@ -113,7 +113,7 @@ module _ (area : List ℕ) (used : ℕ) (whole : used % wordSize ≡ 0) where
           let m : fill marks (far / wordSize) (roomTo far stop) ≡ after = cc in
           let fits = text-inv area used far (byteOf far) (λ z. omega (arith, ltb-true 0 stop (v .0))) in (
             subst (λ (x : List ℕ). ValueIn area used marks x at name) m
-                (long-in marks at far stop name (omega (arith, eqb-false serial 0 e)) (omega arith) (omega (arith, leb-true (k * wordSize) off (t .0))) fits (v .1)),
+                (long-in marks at far stop name (long-says area at (wordAt area at serialField) refl e) (omega arith) (omega (arith, leb-true (k * wordSize) off (t .0))) fits (v .1)),
             cc,
           )
 

@@ -9,16 +9,17 @@ use lib.ListN.{length}
 use borrow.Author.Tests.{eq-eqb, ne-eqb, le-leb, lt-ltb}
 use Rattle.names.specs.Names.{segmentOrder}
 use Rattle.names.specs.declared.Order.the-variants.{Less}
-use Rattle.layout.specs.Layout.{wordSize, propField, entrySize, serialField, slotField, longOffsetField, longBit, firstFree, byteOf, placeOf, wordAt, entryTakes, valueTakes}
+use Rattle.layout.specs.Layout.{wordSize, propField, entrySize, serialField, slotField, longOffsetField, firstFree, byteOf, placeOf, wordAt, entryTakes, valueTakes}
+use Rattle.property_info.specs.Serial.{longIn}
+use Rattle.property_info.proofs.Laws.{long-is, short-is}
 use Rattle.sound.specs.Tree.{Value, short, long, Entry, bare, entry, entryLink, listedOwn, inside, valueCover, entryCover}
 use Rattle.sound.specs.Sound.{Holds, HoldsText, Without, ValueAt, EntryAt, ValueRule, EntryRule}
-use Rattle.sound.proofs.Inside.{inside-between}
 use Rattle.sound.proofs.Holding.{text-bytes}
 use Rattle.walk.specs.Marks.{canTake, fill}
 use Rattle.walk.specs.Machine.{Done, done}
 use Rattle.walk.specs.Model.{fieldAt, nameAt, isLess, follows, endOf, textEnd, roomTo, isPath, valueWork, entryWork, ownWork}
 use Rattle.walk.proofs.Growing.{Owned, Prefix}
-use Rattle.walk.proofs.MarkLaws.{counted, took, can-at, fill-grew}
+use Rattle.walk.proofs.MarkLaws.{fill-grew, counted, took, can-at, lies-between}
 use Rattle.walk.proofs.Scanning.{end-le, text-ends, TextFits, text-of}
 use Rattle.walk.proofs.Paths.{path-ok}
 
@@ -46,17 +47,11 @@ record Placed (area : List ℕ) (used : ℕ) (marks : List ℕ) (at from stop si
   count : (i : ℕ) → counted (fill marks (at / wordSize) (roomTo at stop)) i ≡ counted marks i + inside (byteOf at) size i
 
 module _ (area : List ℕ) (used : ℕ) (from-first : firstFree ≤ used) where
-  lies : (at size : ℕ) → 1 ≤ size → ((i : ℕ) → inside (byteOf at) size i ≤ inside (byteOf firstFree) (used - firstFree) i) → (firstFree ≤ at) × (at + size ≤ used)
-  lies at size some within =
-      let e : byteOf used - byteOf firstFree ≡ used - firstFree = omega arith in
-      let b = inside-between (byteOf at) size (byteOf firstFree) (byteOf used) some (omega arith) (λ i. rw e (within i)) in
-      (omega arith, omega arith)
-
   place : (marks : List ℕ) (at from size : ℕ) (text : List ℕ) → used ≤ 4 * length marks → at % wordSize ≡ 0 → byteOf at ≤ from → 4 * roomTo at (from + length text) ≡ size
       → HoldsText area from text → Without 0 text → ((i : ℕ) → counted marks i + inside (byteOf at) size i ≤ 1)
       → ((i : ℕ) → inside (byteOf at) size i ≤ inside (byteOf firstFree) (used - firstFree) i) → Placed area used marks at from (from + length text) size
   place marks at from size text room aligned behind e h clean free within =
-      let b = lies at size (omega arith) within in
+      let b = lies-between used from-first at size (omega arith) within in
       let can : canTake marks (at / wordSize) (roomTo at (from + length text)) ≡ true = can-at marks at (roomTo at (from + length text)) size aligned e (omega arith) free in
       record {
         fits = record { aligned = aligned; low = b .0; high = omega arith; ends = text-ends area from text h clean };
@@ -75,16 +70,16 @@ module _ (area : List ℕ) (used : ℕ) (from-first : firstFree ≤ used) where
       let l : endOf area from to ≤ from + j = end-le area from to (from + j) (omega arith) (bytes .0 j (rule .1 .1) ∙ rule .1 .2) in
       record {
         after = marks;
-        is = rw (eq-eqb (wordAt area at serialField / longBit % 2) 0 (rule .0), lt-ltb (endOf area from to) to (omega arith));
+        is = rw (short-is area at (wordAt area at serialField) refl (rule .0), lt-ltb (endOf area from to) to (omega arith));
         count = λ i. omega arith;
       }
 
-  long-at : (marks : List ℕ) (at k far stop : ℕ) → wordAt area at serialField / longBit % 2 ≡ 1 → at + wordAt area at longOffsetField ≡ far → k * wordSize ≤ wordAt area at longOffsetField
+  long-at : (marks : List ℕ) (at k far stop : ℕ) → longIn (wordAt area at serialField) ≡ 1 → at + wordAt area at longOffsetField ≡ far → k * wordSize ≤ wordAt area at longOffsetField
       → textEnd area used far (byteOf far) ≡ stop → 0 < stop → canTake marks (far / wordSize) (roomTo far stop) ≡ true
       → valueWork area used marks at k ≡ done (fill marks (far / wordSize) (roomTo far stop)) (at ∷ [])
   unfolding valueWork
   long-at marks at k far stop s e h t some can =
-      rw (ne-eqb (wordAt area at serialField / longBit % 2) 0 (λ z. omega arith), le-leb (k * wordSize) (wordAt area at longOffsetField) h, e, t, lt-ltb 0 stop some, can)
+      rw (long-is area at (wordAt area at serialField) refl s, le-leb (k * wordSize) (wordAt area at longOffsetField) h, e, t, lt-ltb 0 stop some, can)
 
   value-done : (marks : List ℕ) (at k : ℕ) (name : List ℕ) (value : Value) → used ≤ 4 * length marks → 4 * k ≡ entryTakes (length name) → ValueAt area at value
       → ValueRule at (wordAt area at serialField) name value → ((i : ℕ) → counted marks i + valueCover value i ≤ 1)

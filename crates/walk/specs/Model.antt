@@ -7,7 +7,9 @@ use lib.Dec.{eqb, leb, ltb}
 use Rattle.words.specs.Words.{firstIn}
 use Rattle.names.specs.Names.{dot, segmentOrder}
 use Rattle.names.specs.declared.Order.{Order}
-use Rattle.layout.specs.Layout.{wordSize, nodeSize, namelenField, propField, leftField, rightField, childrenField, entrySize, serialField, slotField, longOffsetField, longBit, rootAt, firstFree, dataSize, byteOf, placeOf, wordAt}
+use Rattle.layout.specs.Refusals.{guard}
+use Rattle.layout.specs.Layout.{wordSize, nodeSize, namelenField, propField, leftField, rightField, childrenField, entrySize, slotField, longOffsetField, rootAt, firstFree, dataSize, byteOf, placeOf, wordAt}
+use Rattle.property_info.specs.Entry.{isLong}
 use Rattle.sound.specs.Ways.{Dir, toLeft, toBelow, toRight}
 use Rattle.walk.specs.Marks.{all, isZero, canTake, fill, write, read}
 use Rattle.walk.specs.Machine.{Phase, on, up, Taken, refused, taken, Done, halt, done, State, bad, here, go, step, run}
@@ -161,11 +163,10 @@ longWork area used marks at far end =
 
 unfoldable pub valueWork : List ℕ → ℕ → List ℕ → ℕ → ℕ → Done (List ℕ)
 valueWork area used marks at k =
-    cond (eqb (wordAt area at serialField / longBit % 2) 0)
+    cond (isLong area at)
+    (guard (leb (k * wordSize) (wordAt area at longOffsetField)) halt
+    (longWork area used marks at (at + wordAt area at longOffsetField) (textEnd area used (at + wordAt area at longOffsetField) (byteOf (at + wordAt area at longOffsetField)))))
     (shortWork area marks at)
-    (cond (leb (k * wordSize) (wordAt area at longOffsetField))
-    (longWork area used marks at (at + wordAt area at longOffsetField) (textEnd area used (at + wordAt area at longOffsetField) (byteOf (at + wordAt area at longOffsetField))))
-    halt)
 
 abbrev pub namedWork : List ℕ → ℕ → List ℕ → ℕ → ℕ → ℕ → Done (List ℕ)
 namedWork area used marks n at end =

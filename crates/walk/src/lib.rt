@@ -1,2 +1,2 @@
-// The walk has no code here: these are its steps as definitions, and the proof that they decide soundness.
-pub const STEP: usize = 6;
+// The walk as definitions, over any bytes, and the proof that it decides soundness: both ways, and within its bound of steps.
+// No code stands here: the crates probes, works and tour make these steps.

@@ -3,12 +3,12 @@ use mathlib.Core.Path.{_≡_, refl, sym, ap, _∙_}
 use mathlib.Core.Bool.{Bool, true, false}
 use mathlib.Core.List.{List, [], _∷_, _++_}
 use Prim.Native.Nat.{ℕ, zero, suc, _+_, _-_, _*_, _/_, _%_, _^_, _≤_, _<_}
-use native.Mathlib.Nat.{zero-add, add-zero, add-assoc, pow-suc}
+use native.Mathlib.Nat.{zero-add, add-zero, add-assoc, pow-suc, div-lt-iff-lt-mul}
 use native.Mathlib.Numerals.{add-one}
 use native.Mathlib.Omega.{arith}
-use borrow.Author.Tests.{eq-eqb, ne-eqb}
+use borrow.Author.Tests.{eq-eqb, ne-eqb, eqb-true, eqb-false}
 use lib.Dec.{eqb}
-use lib.ListN.{length, getD, set, take, drop, length-set, length-take, length-drop, drop-of-length-le}
+use lib.ListN.{length, getD, set, take, drop, replicate, length-replicate, replicate-append-replicate, length-set, length-take, length-drop, drop-of-length-le}
 use lib.Seq.{ext-getD, length-take-le, getD-set-same, getD-set-other, take-suc, drop-cons}
 use Rattle.words.specs.Words.{littleAt, littleBytes, part, firstIn, sameBytes, put}
 
@@ -16,6 +16,10 @@ use Rattle.words.specs.Words.{littleAt, littleBytes, part, firstIn, same
 pub bool-cases {ℓ} : {P : Type ℓ} (t : Bool) → (t ≡ true → P) → (t ≡ false → P) → P
 bool-cases true f g = f refl
 bool-cases false f g = g refl
+
+-- two constructors of one type are never equal: `cc` has 0 ≡ 1 from that, and anything follows
+pub clash {ℓ} : {P : Type ℓ} → _≡_ {A = ℕ} 0 1 → P
+clash e = absurd (omega (arith, e))
 
 -- ---- numbers
 -- a word by its four bytes, at the places that code names
@@ -68,6 +72,10 @@ put-take s at bs i h =
     let n : length (take i bs) ≡ i = length-take-le i bs (omega arith) in
     rw (add-one, take-suc bs i 0, put-more, n)
 
+-- one byte more of the same
+pub put-again : (s : List ℕ) (at k b : ℕ) → set (put s at (replicate k b)) (at + k) b ≡ put s at (replicate (k + 1) b)
+put-again s at k b = rw (← replicate-append-replicate {A = ℕ} k 1 b, put-more, length-replicate)
+
 -- what stands before it, behind it and in it
 pub put-before : (s : List ℕ) (at : ℕ) (bs : List ℕ) (j : ℕ) → j < at → getD (put s at bs) j 0 ≡ getD s j 0
 unfolding put
@@ -86,6 +94,19 @@ put-same s at (b ∷ bs) zero h f = rw add-zero (put-before (set s at b) (at + 1
 put-same s at (b ∷ bs) (suc k) h f =
     let e : at + suc k ≡ at + 1 + k = omega arith in
     rw e (put-same (set s at b) (at + 1) bs k (omega arith) (simp length-set (omega arith)))
+
+-- a number read where it was put
+pub little-put-same : (k : ℕ) (s : List ℕ) (i v : ℕ) → i + k ≤ length s → v < 256 ^ k → littleAt k (put s i (littleBytes k v)) i ≡ v
+unfolding littleAt littleBytes put
+little-put-same zero s i v f h = omega arith
+little-put-same (suc k) s i v f h =
+    let b : v / 256 < 256 ^ k = div-lt-iff-lt-mul {k = 256} (omega arith) .1 (rw pow-suc at h) in
+    let rest = littleBytes k (v / 256) in
+    let e : getD (put (set s i (v % 256)) (i + 1) rest) i 0 ≡ v % 256 =
+    put-before (set s i (v % 256)) (i + 1) rest i (omega arith) ∙ getD-set-same s i (v % 256) 0 (omega arith) in
+    let g : littleAt k (put (set s i (v % 256)) (i + 1) rest) (i + 1) ≡ v / 256 =
+    little-put-same k (set s i (v % 256)) (i + 1) (v / 256) (simp length-set (omega arith)) b in
+    omega (arith, e, g)
 
 -- a whole list replaced
 pub put-whole : (s bs : List ℕ) → length bs ≡ length s → put s 0 bs ≡ bs
@@ -134,6 +155,29 @@ first-high b s at (suc k) =
     (λ e. rw e (omega arith))
     (λ e. rw e (omega (arith, first-high b s (at + 1) k)))
 
+-- no byte before the first that is found is b, and the one there is
+pub first-none : (b : ℕ) (s : List ℕ) (at k j : ℕ) → at ≤ j → j < firstIn b s at k → getD s j 0 ≡ b → ⊥
+unfolding firstIn
+first-none b s at zero j h l e = omega arith
+first-none b s at (suc k) j h l e =
+    bool-cases (eqb (getD s at 0) b)
+    (λ t. let m : j < at = rw t at l in omega arith)
+    (λ t.
+    let m : j < firstIn b s (at + 1) k = rw t at l in
+    bool-cases (eqb j at)
+    (λ u. let v : j ≡ at = eqb-true j at u in eqb-false (getD s at 0) b t (rw (← v) e))
+    (λ u. first-none b s (at + 1) k j (omega (arith, eqb-false j at u)) m e))
+
+pub first-there : (b : ℕ) (s : List ℕ) (at k : ℕ) → firstIn b s at k < at + k → getD s (firstIn b s at k) 0 ≡ b
+unfolding firstIn
+first-there b s at zero h = absurd (omega arith)
+first-there b s at (suc k) h =
+    bool-cases (eqb (getD s at 0) b)
+    (λ t. rw t (eqb-true (getD s at 0) b t))
+    (λ t.
+    let m : firstIn b s (at + 1) k < at + suc k = rw t at h in
+    rw t (first-there b s (at + 1) k (omega arith)))
+
 -- ---- sameness
 pub same-length : (a b : List ℕ) → (length a ≡ length b → ⊥) → false ≡ sameBytes a b
 unfolding sameBytes
@@ -157,3 +201,19 @@ module _ (a b : List ℕ) (i : ℕ) (ha : i < length a) (hb : i < length b) wher
 pub same-end : (a b : List ℕ) (i : ℕ) → length a ≤ i → length b ≤ i → true ≡ sameBytes (drop i a) (drop i b)
 unfolding sameBytes
 same-end a b i h k = rw (drop-of-length-le a {i = i} h, drop-of-length-le b {i = i} k)
+
+-- it tells equal runs of bytes from others
+pub same-eq : (a b : List ℕ) → sameBytes a b ≡ true → a ≡ b
+unfolding sameBytes
+same-eq [] [] h = refl
+same-eq [] (y ∷ ys) h = cc
+same-eq (x ∷ xs) [] h = cc
+same-eq (x ∷ xs) (y ∷ ys) h =
+    bool-cases (eqb x y)
+    (λ e. let p : x ≡ y = eqb-true x y e in let q : xs ≡ ys = same-eq xs ys (rw e at h) in cc)
+    (λ e. let q : _≡_ {A = Bool} false true = rw e at h in cc)
+
+pub same-self : (a : List ℕ) → sameBytes a a ≡ true
+unfolding sameBytes
+same-self [] = refl
+same-self (x ∷ xs) = rw (eq-eqb x x refl) (same-self xs)

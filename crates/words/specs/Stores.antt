@@ -5,7 +5,7 @@ use Rattle.words.specs.Words.{littleBytes, put}
 
 -- the bytes of one store, from a place on: a byte, a word, a block
 pub data Store : Type 0 where
-  store : ℕ → List ℕ → Store
+  store : (at : ℕ) (bytes : List ℕ) → Store
 
 unfoldable pub run : List ℕ → List Store → List ℕ
 run s [] = s

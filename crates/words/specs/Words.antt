@@ -31,6 +31,10 @@ firstIn b s at (suc k) = let later = firstIn b s (at + 1) k in cond (eqb (getD s
 abbrev pub hasZero : List ℕ → Bool
 hasZero s = ltb (firstIn 0 s 0 (length s)) (length s)
 
+-- the bytes up to the first zero, all if there is none
+abbrev pub upToZero : List ℕ → List ℕ
+upToZero s = take (firstIn 0 s 0 (length s)) s
+
 -- whether two runs of bytes are the same
 unfoldable pub sameBytes : List ℕ → List ℕ → Bool
 sameBytes [] [] = true

@@ -1,12 +1,12 @@
-// Bytes in a lent slice: little-endian words, alignment, the scan for a byte, a copy, a comparison with a fixed byte string.
+// Bytes in a lent slice: little-endian words, alignment, the scan for a byte, copies and fills, a comparison.
 ghost use mathlib.Core.Path.{_≡_};
 ghost use Prim.Native.Nat.{_+_, _-_, _≤_, _<_};
-ghost use lib.ListN.{length, replicate};
+ghost use lib.ListN.{length, getD, replicate};
 ghost use Rattle.words.specs.Words.{littleAt, littleBytes, roundUp4, firstIn, sameBytes, put};
 ghost use Rattle.words.specs.Stores.{run, textStores};
 
 // A byte as a word.
-fn wide(b: u8) -> u32
+pub fn wide(b: u8) -> u32
     ensures { λ r. ⌜ (r ≡ b) × (r < 256) ⌝ }
 {
     b as u32
@@ -18,6 +18,27 @@ pub fn word(s: &[u8], at: usize) -> u32
     ensures { λ r. ⌜ r ≡ littleAt 4 (now (s .entry)) at ⌝ }
 {
     wide(s[at]) + 256 * (wide(s[at + 1]) + 256 * (wide(s[at + 2]) + 256 * wide(s[at + 3])))
+}
+
+// The byte at a place; past the end it is zero.
+pub fn byte_or_zero(s: &[u8], i: usize) -> u8
+    ensures { λ r. ⌜ r ≡ getD (now (s .entry)) i 0 ⌝ }
+{
+    if i < s.len() {
+        return s[i];
+    }
+    0
+}
+
+// The word whose four bytes stand from a place on; bytes past the end are zero.
+pub fn word_or_zero(s: &[u8], at: usize) -> u32
+    requires { ⌜ at < 0x1000000000000 ⌝ }
+    ensures { λ r. ⌜ r ≡ littleAt 4 (now (s .entry)) at ⌝ }
+{
+    wide(byte_or_zero(s, at))
+        + 256
+            * (wide(byte_or_zero(s, at + 1))
+                + 256 * (wide(byte_or_zero(s, at + 2)) + 256 * wide(byte_or_zero(s, at + 3))))
 }
 
 // Replaces the four bytes from a place on by those of a word.
@@ -75,15 +96,30 @@ pub fn put_text(dst: &mut [u8], at: usize, text: &[u8])
     dst[at + text.len()] = 0;
 }
 
+// Makes k bytes from a place on the same.
+pub fn fill(s: &mut [u8], from: usize, k: usize, b: u8)
+    requires { ⌜ from + k ≤ length (now s) ⌝ }
+    ensures { λ _. ⌜ now (s .exit) ≡ put (now (s .entry)) from (replicate k b) ⌝ }
+{
+    let mut i = 0;
+    while i < k {
+        s[from + i] = b;
+        i += 1;
+    }
+}
+
+// Makes every byte the same.
+pub fn flood(s: &mut [u8], b: u8)
+    ensures { λ _. ⌜ now (s .exit) ≡ replicate (length (now (s .entry))) b ⌝ }
+{
+    fill(s, 0, s.len(), b);
+}
+
 // Makes every byte zero.
 pub fn clear(s: &mut [u8])
     ensures { λ _. ⌜ now (s .exit) ≡ replicate (length (now (s .entry))) 0 ⌝ }
 {
-    let mut i = 0;
-    while i < s.len() {
-        s[i] = 0;
-        i += 1;
-    }
+    flood(s, 0);
 }
 
 // Whether two runs of bytes are the same.

@@ -1,7 +1,7 @@
-//! The steps of crates/audit in plain, safe Rust: the twin of our own check and listing, function by function.
+//! The steps of crates/audit, tour, works and probes in plain, safe Rust: the twin of our own check and listing, function by function.
 //!
 //! It stands in for the proved archive where there is none, and it is what `broken` breaks on purpose. How the walk works, and why,
-//! stands at the top of crates/audit/src/lib.rt. It is no judge: that is `checker`, which was written from document 01 alone.
+//! stands at the top of crates/tour/src/lib.rt. It is no judge: that is `checker`, which was written from document 01 alone.
 
 use calls::{Audit, Count};
 use layout::{Entry, Header, Node, FIRST_FREE, LONGEST};

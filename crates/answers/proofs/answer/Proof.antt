@@ -10,17 +10,17 @@ ask-requires c κs = search needs
 enum-known-from : tie.Need-enum-known-from
 enum-known-from c = search needs
 
-sub-say-shown : tie.Need-sub-say-shown
-sub-say-shown c = ask-in _ _ _ (c .before .before .before .before .ask .ensures) _ _ (c .before .before .from .given .1) .low
+sub-say-value : tie.Need-sub-say-value
+sub-say-value c = ask-in _ _ _ (c .before .before .before .before .ask .ensures) _ _ (c .before .before .from .given .1) .low
 
-part-say-shown-start : tie.Need-part-say-shown-start
-part-say-shown-start c = ask-in _ _ _ (c .before .before .before .before .ask .ensures) _ _ (c .before .before .from .given .1) .low
+part-say-value-start : tie.Need-part-say-value-start
+part-say-value-start c = ask-in _ _ _ (c .before .before .before .before .ask .ensures) _ _ (c .before .before .from .given .1) .low
 
-part-say-shown-end : tie.Need-part-say-shown-end
-part-say-shown-end c = ask-in _ _ _ (c .before .before .before .before .ask .ensures) _ _ (c .before .before .from .given .1) .high
+part-say-value-end : tie.Need-part-say-value-end
+part-say-value-end c = ask-in _ _ _ (c .before .before .before .before .ask .ensures) _ _ (c .before .before .from .given .1) .high
 
-say-shown-requires : tie.Need-say-shown-requires
-say-shown-requires c κs = search needs
+say-value-requires : tie.Need-say-value-requires
+say-value-requires c κs = search needs
 
 enum-known-why : tie.Need-enum-known-why
 enum-known-why c = search needs
@@ -34,7 +34,7 @@ same-length c = search needs
 returns : tie.Need-returns
 returns c =
     let t = c .before .before .before .before .before .before in
-    rw (answer-shown _ _ _ (t .before .before .ask .ensures) _ _ (t .from .given .1)) at (c .before .before .say-shown .ensures)
+    rw (answer-shown _ _ _ (t .before .before .ask .ensures) _ _ (t .from .given .1)) at (c .before .before .say-value .ensures)
 
 same-length-2 : tie.Need-same-length-2
 same-length-2 c = search needs
@@ -50,10 +50,10 @@ answer-spec =
     (tie.spec
     ask-requires
     enum-known-from
-    sub-say-shown
-    part-say-shown-start
-    part-say-shown-end
-    say-shown-requires
+    sub-say-value
+    part-say-value-start
+    part-say-value-end
+    say-value-requires
     enum-known-why
     say-refused-requires
     same-length

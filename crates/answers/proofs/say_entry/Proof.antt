@@ -11,8 +11,8 @@ slice-aggregate-say c = search needs
 say-requires : tie.Need-say-requires
 say-requires c κs = search needs
 
-name-part-requires : tie.Need-name-part-requires
-name-part-requires c κs = search needs
+name-bytes-requires : tie.Need-name-bytes-requires
+name-bytes-requires c κs = search needs
 
 say-escaped-requires : tie.Need-say-escaped-requires
 say-escaped-requires c κs = search needs
@@ -23,8 +23,8 @@ slice-aggregate-say-2 c = search needs
 say-requires-2 : tie.Need-say-requires-2
 say-requires-2 c κs = search needs
 
-value-part-requires : tie.Need-value-part-requires
-value-part-requires c κs = search needs
+value-bytes-requires : tie.Need-value-bytes-requires
+value-bytes-requires c κs = search needs
 
 say-escaped-requires-2 : tie.Need-say-escaped-requires-2
 say-escaped-requires-2 c κs = search needs
@@ -46,9 +46,9 @@ returns c =
     let between = value .before .before .before .before .before in
     let name = between .before .before .before .before .before in
     let first = name .before .before .before .before .before in
-    let named = rw (name .before .name-part .ensures) at (name .say-escaped .ensures) in
-    let shown = rw (value .before .value-part .ensures) at (value .say-escaped2 .ensures) in
-    said-then _ _ _ _ (said-then _ _ _ _ (said-then _ _ _ _ (said-then _ _ _ _ (first .say .ensures) named) (between .say2 .ensures)) shown) (last .say3 .ensures)
+    let named = rw (name .before .name-bytes .ensures) at (name .say-escaped .ensures) in
+    let valued = rw (value .before .value-bytes .ensures) at (value .say-escaped2 .ensures) in
+    said-then _ _ _ _ (said-then _ _ _ _ (said-then _ _ _ _ (said-then _ _ _ _ (first .say .ensures) named) (between .say2 .ensures)) valued) (last .say3 .ensures)
 
 pub say-entry-spec : {M : Type 1} → statement M
 say-entry-spec =
@@ -56,11 +56,11 @@ say-entry-spec =
     (tie.spec
     slice-aggregate-say
     say-requires
-    name-part-requires
+    name-bytes-requires
     say-escaped-requires
     slice-aggregate-say-2
     say-requires-2
-    value-part-requires
+    value-bytes-requires
     say-escaped-requires-2
     slice-aggregate-say-3
     say-requires-3

@@ -1,6 +1,6 @@
 -- `pa_value` gives the struct that `partStruct` makes of value's answer; where the value starts fits 32 bits, since the area's length does. Assumes nothing.
 use native.Mathlib.Omega.{arith}
-use Rattle.property_area.proofs.ValueLaws.{shown-in}
+use Rattle.property_area.proofs.ValueLaws.{part-in}
 use Rattle.capi.proofs.Laws.{part-bytes, part-refused}
 use borrow.Author.Needs.{needs}
 use Rattle.capi.proofs.pa_value.Statement.{statement}
@@ -14,11 +14,11 @@ enum-known-from c = search needs
 
 cast-t8 : tie.Need-cast-t8
 cast-t8 c =
-    let s = shown-in _ _ _ (c .before .before .before .value .ensures) _ _ (c .before .from .given .1) in
+    let s = part-in _ _ _ (c .before .before .before .value .ensures) _ _ (c .before .from .given .1) in
     omega (arith, s .low, s .high, s .small)
 
 sub-t9 : tie.Need-sub-t9
-sub-t9 c = shown-in _ _ _ (c .before .before .before .value .ensures) _ _ (c .before .from .given .1) .low
+sub-t9 c = part-in _ _ _ (c .before .before .before .value .ensures) _ _ (c .before .from .given .1) .low
 
 enum-known-why : tie.Need-enum-known-why
 enum-known-why c = search needs

@@ -8,7 +8,7 @@ use lib.ListN.{length, take}
 use Rattle.sound.specs.Sound.{Without}
 use Rattle.texts.specs.Text.{lineFeed}
 use Rattle.answers.specs.Answers.{textMax}
-use Rattle.answers.proofs.Within.{turn-within}
+use Rattle.answers.proofs.Reaching.{turn-within}
 use Rattle.printed.proofs.Promises.{turn-goes, turn-clean}
 use Rattle.programs.specs.Owed.{OwesIn}
 use Rattle.programs.proofs.Laws.{moved-on}

@@ -1,6 +1,6 @@
 -- `last_text` leaves what is owed for the last line whole. Assumes nothing.
 use native.Mathlib.Omega.{arith}
-use Rattle.answers.proofs.Within.{end-within}
+use Rattle.answers.proofs.Reaching.{end-within}
 use Rattle.printed.proofs.Promises.{end-whole}
 use borrow.Author.Needs.{needs}
 use Rattle.programs.proofs.last_text.Statement.{statement}

@@ -11,11 +11,8 @@ add-at c = search needs
 add-put-word : tie.Need-add-put-word
 add-put-word c = search needs
 
-mul-put-word : tie.Need-mul-put-word
-mul-put-word c = search needs
-
-add-put-word-2 : tie.Need-add-put-word-2
-add-put-word-2 c = search needs
+long-serial-requires : tie.Need-long-serial-requires
+long-serial-requires c κs = search needs
 
 put-word-requires : tie.Need-put-word-requires
 put-word-requires c κs = search needs
@@ -29,8 +26,8 @@ slice-aggregate-copy c = search needs
 copy-requires : tie.Need-copy-requires
 copy-requires c κs = search needs
 
-add-put-word-3 : tie.Need-add-put-word-3
-add-put-word-3 c = search needs
+add-put-word-2 : tie.Need-add-put-word-2
+add-put-word-2 c = search needs
 
 put-word-requires-2 : tie.Need-put-word-requires-2
 put-word-requires-2 c κs = search needs
@@ -48,13 +45,12 @@ init-with-long-offset-spec =
     (tie.spec
     add-at
     add-put-word
-    mul-put-word
-    add-put-word-2
+    long-serial-requires
     put-word-requires
     add-copy
     slice-aggregate-copy
     copy-requires
-    add-put-word-3
+    add-put-word-2
     put-word-requires-2
     same-length
     returns)

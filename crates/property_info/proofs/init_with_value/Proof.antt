@@ -10,11 +10,8 @@ add-at c = search needs
 add-put-word : tie.Need-add-put-word
 add-put-word c = search needs
 
-cast-put-word : tie.Need-cast-put-word
-cast-put-word c = search needs
-
-mul-put-word : tie.Need-mul-put-word
-mul-put-word c = search needs
+short-serial-requires : tie.Need-short-serial-requires
+short-serial-requires c κs = search needs
 
 put-word-requires : tie.Need-put-word-requires
 put-word-requires c κs = search needs
@@ -37,8 +34,7 @@ init-with-value-spec =
     (tie.spec
     add-at
     add-put-word
-    cast-put-word
-    mul-put-word
+    short-serial-requires
     put-word-requires
     add-put-text
     put-text-requires

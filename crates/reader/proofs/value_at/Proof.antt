@@ -1,4 +1,4 @@
--- A reader is made by `over`, held in a local and passed to `shown`: a walk of the MIR, over what the two promise. In a local the
+-- A reader is made by `over`, held in a local and passed to `value_here`: a walk of the MIR, over what the two promise. In a local the
 -- lifetime of the reader's type is `erased`. The slice is Copy: what it owns is had twice, for the exit and for the call. Assumes nothing.
 use mathlib.Core.Path.{_≡_, refl, ap, _∙_}
 use Prim.Native.Nat.{ℕ, _<_, _^_}
@@ -38,21 +38,21 @@ use denote.Triple.Walked.{says, Stays, stay-none, stay-none-slice, walkOf, goes-
 use denote.Exit.{yes}
 use denote.Triple.Clauses.{ensured, lasts}
 use Rattle.layout.specs.Refusals.{Answer}
-use Rattle.property_area.specs.Value.{Part, shownAnswer, valueSteps}
+use Rattle.property_area.specs.Value.{Part, partAnswer, valueSteps}
 use Rattle.reader.specs.declared.AreaReader.{AreaReader}
-use Rattle.property_area.specs.declared.values.Shown.{Shown}
+use Rattle.property_area.specs.declared.values.ValuePart.{ValuePart}
 use Rattle.reader.proofs.AreaReader as T
 use Rattle.reader.proofs.AreaReader.Laws as T′
-use Rattle.property_area.proofs.values.Shown as S
-use Rattle.property_area.proofs.values.Shown.Laws as S′
+use Rattle.property_area.proofs.values.ValuePart as S
+use Rattle.property_area.proofs.values.ValuePart.Laws as S′
 use Rattle.reader.proofs.over as over
 use Rattle.reader.proofs.over.Symbol as over-def
 use Rattle.reader.proofs.over.Symbol.{name as #reader·over}
 use Rattle.reader.proofs.over.Met as over-thm
-use Rattle.reader.proofs.shown as shown
-use Rattle.reader.proofs.shown.Symbol as shown-def
-use Rattle.reader.proofs.shown.Symbol.{name as #reader·shown}
-use Rattle.reader.proofs.shown.Met as shown-thm
+use Rattle.reader.proofs.value_here as value-here
+use Rattle.reader.proofs.value_here.Symbol as value-here-def
+use Rattle.reader.proofs.value_here.Symbol.{name as #reader·value-here}
+use Rattle.reader.proofs.value_here.Met as value-here-thm
 use Rattle.reader.proofs.value_at.Key.{name as #reader·value-at}
 use Rattle.reader.proofs.value_at as value-at
 use Rattle.reader.proofs.value_at.Statement as stated
@@ -71,7 +71,7 @@ module _ {M : Type 1} (𝓤 : URA M) (H : Heap 𝓤) (A : Atoms 𝓤) (mem : Mem
   Over = tripleOf 𝓤 H A over.signature (over.spec 𝓤 H A mem run)
 
   abbrev Showing : Contract 𝓤
-  Showing = tripleOf 𝓤 H A shown.signature (shown.spec 𝓤 H A mem run)
+  Showing = tripleOf 𝓤 H A value-here.signature (value-here.spec 𝓤 H A mem run)
 
   module _ (W : Given 𝓤 H A) where
     module _ (κ : Lft) (q : Share) (s : RefT (List ℕ)) (n : ℕ) (fits : n < 2 ^ 32) where
@@ -123,26 +123,26 @@ module _ {M : Type 1} (𝓤 : URA M) (H : Heap 𝓤) (A : Atoms 𝓤) (mem : Mem
       over-said : (r : AreaReader) → ent 𝓤 (ensured 𝓤 H A over.ended (over.clauses 𝓤 H A mem run) κs (s, (n, tt)) tt r) (fact 𝓤 ((r .area ≡ s) × (r .at ≡ n)))
       over-said r = exE 𝓤 _ (λ ws. snd∗ 𝓤 (sem 𝓤 H A (lasts over.ended κs (s, (n, tt)) ws)) (fact 𝓤 ((r .area ≡ s) × (r .at ≡ n))))
 
-      -- the call of `shown`, on the reader r with the machine value u
-      abbrev to-shown : AreaReader → Val → Showing .Ghost
-      to-shown r u = ((κs, qs, tt, (r, tt), (u ∷ [], tt)), tt)
+      -- the call of `value_here`, on the reader r with the machine value u
+      abbrev to-value-here : AreaReader → Val → Showing .Ghost
+      to-value-here r u = ((κs, qs, tt, (r, tt), (u ∷ [], tt)), tt)
 
-      goes-shown : (r : AreaReader) (u : Val) → ent 𝓤 (⋆ 𝓤 H A (‵ (B κs .own r (u ∷ [])) ∷ (‵ (flft κ q) ⊛ ‵ ftrue) ∷ [])) (Showing .pre (to-shown r u))
-      goes-shown r u =
+      goes-value-here : (r : AreaReader) (u : Val) → ent 𝓤 (⋆ 𝓤 H A (‵ (B κs .own r (u ∷ [])) ∷ (‵ (flft κ q) ⊛ ‵ ftrue) ∷ [])) (Showing .pre (to-value-here r u))
+      goes-value-here r u =
           qed W (‵ (B κs .own r (u ∷ [])) ∷ (‵ (flft κ q) ⊛ ‵ ftrue) ∷ []) ∵
           nothing ! $ move ! (1 ∷ 0 ∷ []) $ fjoin ! $ move ! (1 ∷ 0 ∷ []) $ join ! $ frame ! $ done !
 
-      shown-said : (r : AreaReader) (t : Shown)
-          → ent 𝓤 (ensured 𝓤 H A shown.ended (shown.clauses 𝓤 H A mem run) κs (r, tt) tt t) (fact 𝓤 (shownAnswer t ≡ valueSteps (now (r .area)) (r .at)))
-      shown-said r t = exE 𝓤 _ (λ ws. snd∗ 𝓤 (sem 𝓤 H A (lasts shown.ended κs (r, tt) ws)) (fact 𝓤 (shownAnswer t ≡ valueSteps (now (r .area)) (r .at))))
+      value-here-said : (r : AreaReader) (t : ValuePart)
+          → ent 𝓤 (ensured 𝓤 H A value-here.ended (value-here.clauses 𝓤 H A mem run) κs (r, tt) tt t) (fact 𝓤 (partAnswer t ≡ valueSteps (now (r .area)) (r .at)))
+      value-here-said r t = exE 𝓤 _ (λ ws. snd∗ 𝓤 (sem 𝓤 H A (lasts value-here.ended κs (r, tt) ws)) (fact 𝓤 (partAnswer t ≡ valueSteps (now (r .area)) (r .at))))
 
-      exits : (t : Shown) (u : Val) → shownAnswer t ≡ found → ent 𝓤 (⋆ 𝓤 H A (‵ (S.the-row .own t (u ∷ [])) ∷ (‵ (flft κ q) ⊛ ‵ ftrue) ∷ ‵ Owned ∷ [])) (Post u)
+      exits : (t : ValuePart) (u : Val) → partAnswer t ≡ found → ent 𝓤 (⋆ 𝓤 H A (‵ (S.the-row .own t (u ∷ [])) ∷ (‵ (flft κ q) ⊛ ‵ ftrue) ∷ ‵ Owned ∷ [])) (Post u)
       exits t u e =
           qed W (‵ (S.the-row .own t (u ∷ [])) ∷ (‵ (flft κ q) ⊛ ‵ ftrue) ∷ ‵ Owned ∷ []) ∵
           suffices ! _ (ends-at 𝓤 H A value-at.ended stayed (value-at.clauses 𝓤 H A mem run) W ((κs, qs, tt, (s, (n, tt)), at), tt) u t (tt, (tt, tt)) (tt, (tt, tt))) $ says ! e $
           move ! (1 ∷ []) $ frame ! $ move ! (1 ∷ []) $ frame ! $ done !
 
-      module _ (C : Calls 𝓤 H) (Λ : Loops 𝓤 H) (fm : FmC 𝓤 H (W .laws) C) (known-over : Triple 𝓤 (C #reader·over) Over) (known-shown : Triple 𝓤 (C #reader·shown) Showing) where
+      module _ (C : Calls 𝓤 H) (Λ : Loops 𝓤 H) (fm : FmC 𝓤 H (W .laws) C) (known-over : Triple 𝓤 (C #reader·over) Over) (known-value-here : Triple 𝓤 (C #reader·value-here) Showing) where
         walk : Is (ShrSlice (named 0) κ u8) s (v ∷ []) → ent 𝓤 (onEntry 𝓤 H A value-at.signature κs qs (s, (n, tt)) at) (WpFn 𝓤 H C Λ code.function (v ∷ vint w32 n ∷ []) Post)
         walk p =
             qed W (raw (onEntry 𝓤 H A value-at.signature κs qs (s, (n, tt)) at) ∷ []) ∵ enter ! C Λ code.function (v ∷ vint w32 n ∷ []) _ $
@@ -156,12 +156,12 @@ module _ {M : Type 1} (𝓤 : URA M) (H : Heap 𝓤) (A : Atoms 𝓤) (mem : Mem
             -- [what the reader owns; the token; what the parameters own; room for _3; …; _2; …; _1; …; room for _0; …]
             peeks ! (B κs) (Is (B κs)) (shows 𝓤 H A (B κs)) r (u ∷ []) (λ is.
             land ! (from ! (stop !)) (init ! 3 refl (LL.lawful (T.the-type αᵉ) (T′.the-laws αᵉ) 𝓤 H A W .typed r _ is .0)) $
-            use2 W (raw (Showing .pre (to-shown r u))) (goes-shown r u) $
-            calls-at ! fm Showing known-shown (to-shown r u) (and-then ! (load ! (from ! (stop !)) (look ! 2 refl)) (no-more !)) (λ u′.
-            use1 W (later (some (λ (t : Shown). ((‵ (flft κ q) ⊛ ‵ ftrue) ⊛ ‵ (S.the-row .own t (u′ ∷ [])))
-            ⊛ raw (ensured 𝓤 H A shown.ended (shown.clauses 𝓤 H A mem run) κs (r, tt) tt t)))) (id⊢ 𝓤 _) $ await ! tt $ pick ! (λ t.
-            split ! $ move ! (1 ∷ []) $ use1 W (raw (fact 𝓤 (shownAnswer t ≡ valueSteps (now (r .area)) (r .at)))) (shown-said r t) $
-            heard ! (shownAnswer t ≡ valueSteps (now (r .area)) (r .at)) (λ e′. split ! $ move ! (1 ∷ []) $
+            use2 W (raw (Showing .pre (to-value-here r u))) (goes-value-here r u) $
+            calls-at ! fm Showing known-value-here (to-value-here r u) (and-then ! (load ! (from ! (stop !)) (look ! 2 refl)) (no-more !)) (λ u′.
+            use1 W (later (some (λ (t : ValuePart). ((‵ (flft κ q) ⊛ ‵ ftrue) ⊛ ‵ (S.the-row .own t (u′ ∷ [])))
+            ⊛ raw (ensured 𝓤 H A value-here.ended (value-here.clauses 𝓤 H A mem run) κs (r, tt) tt t)))) (id⊢ 𝓤 _) $ await ! tt $ pick ! (λ t.
+            split ! $ move ! (1 ∷ []) $ use1 W (raw (fact 𝓤 (partAnswer t ≡ valueSteps (now (r .area)) (r .at)))) (value-here-said r t) $
+            heard ! (partAnswer t ≡ valueSteps (now (r .area)) (r .at)) (λ e′. split ! $ move ! (1 ∷ []) $
             -- [the result; the token; what the parameters own; _3; …; _2; …; _1; …; room for _0; …]
             peeks ! S.the-row (Is S.the-row) (shows 𝓤 H A S.the-row) t (u′ ∷ []) (λ is′.
             land ! (from ! (stop !)) (init ! 9 refl (EL.lawful S.the-type S′.the-laws 𝓤 H A W tt .typed t _ is′ .0)) $
@@ -169,18 +169,18 @@ module _ {M : Type 1} (𝓤 : URA M) (H : Heap 𝓤) (A : Atoms 𝓤) (mem : Mem
             move ! (9 ∷ 10 ∷ []) $ free1 ! $ move ! (7 ∷ 8 ∷ []) $ free1 ! $ move ! (5 ∷ 6 ∷ []) $ free1 ! $ move ! (3 ∷ 4 ∷ []) $ free1 ! $ free0 ! $
             by ! (exits t u′ (e′ ∙ (ap (λ (x : RefT (List ℕ)). valueSteps (now x) (r .at)) (e .0) ∙ ap (valueSteps (now s)) (e .1))))))))))))))))
 
-    value-at-walks : (C : Calls 𝓤 H) (Λ : Loops 𝓤 H) → FmC 𝓤 H (W .laws) C → Triple 𝓤 (C #reader·over) Over → Triple 𝓤 (C #reader·shown) Showing
+    value-at-walks : (C : Calls 𝓤 H) (Λ : Loops 𝓤 H) → FmC 𝓤 H (W .laws) C → Triple 𝓤 (C #reader·over) Over → Triple 𝓤 (C #reader·value-here) Showing
         → Walks 𝓤 H A value-at.ended stayed (WpFn 𝓤 H C Λ code.function) (value-at.clauses 𝓤 H A mem run)
-    value-at-walks C Λ fm known-over known-shown = walked 𝓤 H A value-at.ended stayed (value-at.clauses 𝓤 H A mem run) (WpFn 𝓤 H C Λ code.function)
+    value-at-walks C Λ fm known-over known-value-here = walked 𝓤 H A value-at.ended stayed (value-at.clauses 𝓤 H A mem run) (WpFn 𝓤 H C Λ code.function)
         (λ κs. (slice-vals, (uint-vals w32, tt))) (λ κs. (shr-slice-tells (named 0) (κs .0) u8, (uint-tells w32, tt)))
-        (λ κs qs bounds a g are. via 𝓤 _ (fst∗ 𝓤 _ (emp 𝓤)) (walk (κs .0) (qs .0) (a .0) (a .1 .0) (are .1 .0 .1) C Λ fm known-over known-shown (are .0)))
+        (λ κs qs bounds a g are. via 𝓤 _ (fst∗ 𝓤 _ (emp 𝓤)) (walk (κs .0) (qs .0) (a .0) (a .1 .0) (are .1 .0 .1) C Λ fm known-over known-value-here (are .0)))
 
-    value-at-meets : (𝓣 : Tables 𝓤 H) → Triple 𝓤 (𝓣 .C #reader·over) Over → Triple 𝓤 (𝓣 .C #reader·shown) Showing
+    value-at-meets : (𝓣 : Tables 𝓤 H) → Triple 𝓤 (𝓣 .C #reader·over) Over → Triple 𝓤 (𝓣 .C #reader·value-here) Showing
         → Meets 𝓤 H A value-at.signature (WpFn 𝓤 H (𝓣 .C) (𝓣 .Λ) code.function) (value-at.spec 𝓤 H A mem run)
-    value-at-meets 𝓣 known-over known-shown = walk-meets 𝓤 H A value-at.ended stayed W
+    value-at-meets 𝓣 known-over known-value-here = walk-meets 𝓤 H A value-at.ended stayed W
         (goes-none-slice 𝓤 H A W 1 (0 ∷ []) tt (plain (λ _. u8)) yes, (goes-none 𝓤 H A W 1 (λ _. u32) yes (λ κs x f. refl), tt))
         (value-at.clauses 𝓤 H A mem run) (WpFn 𝓤 H (𝓣 .C) (𝓣 .Λ) code.function) (WpFn-mono 𝓤 H (W .laws) 𝓣 code.function)
-        (value-at-walks (𝓣 .C) (𝓣 .Λ) (fmOf 𝓤 H (W .laws) 𝓣) known-over known-shown)
+        (value-at-walks (𝓣 .C) (𝓣 .Λ) (fmOf 𝓤 H (W .laws) 𝓣) known-over known-value-here)
 
 pub value-at-spec : {M : Type 1} → stated.statement M
 unfolding code.routine tablesOf
@@ -189,4 +189,4 @@ value-at-spec 𝓤 H 𝓜 𝓖 𝓡 =
     (tables 𝓤 H 𝓜 𝓡 code.env .C) (tables 𝓤 H 𝓜 𝓡 code.env .Λ) #reader·value-at code.function (code.unfolded 𝓤 H 𝓜 𝓡)
     (value-at-meets 𝓤 H (𝓖 .A) (𝓜 .mem) (𝓡 .run) (givenOf 𝓤 H 𝓜 𝓖) (tablesOf 𝓤 H 𝓜 (tables 𝓤 H 𝓜 𝓡 code.env))
     (cited 𝓤 H (Over 𝓤 H (𝓖 .A) (𝓜 .mem) (𝓡 .run)) 𝓜 𝓡 code.env #reader·over over-def.routine code.calls-reader·over (over-thm.met 𝓤 H 𝓜 𝓖 𝓡))
-    (cited 𝓤 H (Showing 𝓤 H (𝓖 .A) (𝓜 .mem) (𝓡 .run)) 𝓜 𝓡 code.env #reader·shown shown-def.routine code.calls-reader·shown (shown-thm.met 𝓤 H 𝓜 𝓖 𝓡)))
+    (cited 𝓤 H (Showing 𝓤 H (𝓖 .A) (𝓜 .mem) (𝓡 .run)) 𝓜 𝓡 code.env #reader·value-here value-here-def.routine code.calls-reader·value-here (value-here-thm.met 𝓤 H 𝓜 𝓖 𝓡)))

@@ -7,8 +7,8 @@ use borrow.Author.Needs.{needs}
 use Rattle.texts.proofs.put_escaped.Statement.{statement}
 use Rattle.texts.proofs.put_escaped.Tie as tie
 
-is-shown-requires : tie.Need-is-shown-requires
-is-shown-requires c κs = search needs
+prints-as-is-requires : tie.Need-prints-as-is-requires
+prints-as-is-requires c κs = search needs
 
 slice-write-buffer : tie.Need-slice-write-buffer
 slice-write-buffer c = search needs
@@ -20,7 +20,7 @@ same-length : tie.Need-same-length
 same-length c = search needs
 
 returns : tie.Need-returns
-returns c = put-shown _ _ _ (sym (c .if1 .taken) ∙ c .before .is-shown .ensures)
+returns c = put-shown _ _ _ (sym (c .if1 .taken) ∙ c .before .prints-as-is .ensures)
 
 slice-write-buffer-2 : tie.Need-slice-write-buffer-2
 slice-write-buffer-2 c = search needs
@@ -58,13 +58,13 @@ same-length-2 c = search needs
 returns-2 : tie.Need-returns-2
 returns-2 c =
     let e = c .before .before in
-    put-hidden _ _ _ (sym (e .if1 .left) ∙ e .before .is-shown .ensures) _ _ (c .before .hex-digit .ensures) (c .hex-digit2 .ensures)
+    put-hidden _ _ _ (sym (e .if1 .left) ∙ e .before .prints-as-is .ensures) _ _ (c .before .hex-digit .ensures) (c .hex-digit2 .ensures)
 
 pub put-escaped-spec : {M : Type 1} → statement M
 put-escaped-spec =
     tie.close
     (tie.spec
-    is-shown-requires
+    prints-as-is-requires
     slice-write-buffer
     add-result
     same-length

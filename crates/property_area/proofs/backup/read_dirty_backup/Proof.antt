@@ -4,7 +4,7 @@ use native.Mathlib.Omega.{arith}
 use borrow.Author.Tests.{not-true, not-false}
 use lib.ListN.{length-take, length-drop}
 use Rattle.words.proofs.Laws.{put-whole}
-use Rattle.property_area.proofs.HeaderLaws.{backup-header, backup-long, backup-short-area, backup-filled}
+use Rattle.property_area.proofs.BackupLaws.{backup-header, backup-long, backup-short-area, backup-filled}
 use borrow.Author.Needs.{needs}
 use Rattle.property_area.proofs.backup.read_dirty_backup.Statement.{statement}
 use Rattle.property_area.proofs.backup.read_dirty_backup.Tie as tie

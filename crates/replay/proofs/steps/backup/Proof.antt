@@ -4,8 +4,8 @@ use borrow.Author.Needs.{needs}
 use Rattle.replay.proofs.steps.backup.Statement.{statement}
 use Rattle.replay.proofs.steps.backup.Tie as tie
 
-fill-requires : tie.Need-fill-requires
-fill-requires c κs = search needs
+flood-requires : tie.Need-flood-requires
+flood-requires c κs = search needs
 
 read-dirty-backup-requires : tie.Need-read-dirty-backup-requires
 read-dirty-backup-requires c κs = search needs
@@ -24,13 +24,13 @@ returns c =
     let n = c .before .before in
     let r = n .before .before .before in
     let f = r .before .before .before .before in
-    backup-read _ _ _ _ (f .fill .ensures) _ (r .read-dirty-backup .ensures) _ (n .number .ensures) _ (c .adler32 .ensures)
+    backup-read _ _ _ _ (f .flood .ensures) _ (r .read-dirty-backup .ensures) _ (n .number .ensures) _ (c .adler32 .ensures)
 
 pub backup-spec : {M : Type 1} → statement M
 backup-spec =
     tie.close
     (tie.spec
-    fill-requires
+    flood-requires
     read-dirty-backup-requires
     number-requires
     adler32-requires

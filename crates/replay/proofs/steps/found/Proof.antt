@@ -1,4 +1,4 @@
--- `steps::found` gives what `foundAnswers` makes of find's answer. Assumes nothing.
+-- `steps::found` gives what `foundReply` makes of find's answer. Assumes nothing.
 use Rattle.replay.proofs.StepLaws.{found-entry, found-refused}
 use borrow.Author.Needs.{needs}
 use Rattle.replay.proofs.steps.found.Statement.{statement}

@@ -49,8 +49,8 @@ found-requires c κs = search needs
 enum-told-6 : tie.Need-enum-told-6
 enum-told-6 c = search needs
 
-shown-requires : tie.Need-shown-requires
-shown-requires c κs = search needs
+valued-requires : tie.Need-valued-requires
+valued-requires c κs = search needs
 
 enum-told-7 : tie.Need-enum-told-7
 enum-told-7 c = search needs
@@ -121,7 +121,7 @@ same-length-6 : tie.Need-same-length-6
 same-length-6 c = search needs
 
 returns-6 : tie.Need-returns-6
-returns-6 c = rw (c .before .before .enum-told6 .given .1, c .shown .ensures)
+returns-6 c = rw (c .before .before .enum-told6 .given .1, c .valued .ensures)
 
 same-length-7 : tie.Need-same-length-7
 same-length-7 c = search needs
@@ -164,7 +164,7 @@ perform-spec =
     enum-told-5
     found-requires
     enum-told-6
-    shown-requires
+    valued-requires
     enum-told-7
     backup-requires
     enum-told-8

@@ -1,0 +1,46 @@
+-- `value_bytes` hands back the part that `partOrNone` says. Assumes nothing.
+use Rattle.property_area.proofs.ValueLaws.{part-in, value-bytes, value-refused}
+use borrow.Author.Needs.{needs}
+use Rattle.property_area.proofs.values.value_bytes.Statement.{statement}
+use Rattle.property_area.proofs.values.value_bytes.Tie as tie
+
+value-requires : tie.Need-value-requires
+value-requires c κs = search needs
+
+enum-known-place : tie.Need-enum-known-place
+enum-known-place c = search needs
+
+enum-told : tie.Need-enum-told
+enum-told c = search needs
+
+slice-aggregate-result : tie.Need-slice-aggregate-result
+slice-aggregate-result c = search needs
+
+returns : tie.Need-returns
+returns c = value-refused _ _ _ (c .before .before .before .value .ensures) _ (c .before .enum-told .given .1)
+
+sub-result : tie.Need-sub-result
+sub-result c = part-in _ _ _ (c .before .before .before .value .ensures) _ _ (c .before .place .given .1) .low
+
+part-result-start : tie.Need-part-result-start
+part-result-start c = part-in _ _ _ (c .before .before .before .value .ensures) _ _ (c .before .place .given .1) .low
+
+part-result-end : tie.Need-part-result-end
+part-result-end c = part-in _ _ _ (c .before .before .before .value .ensures) _ _ (c .before .place .given .1) .high
+
+returns-2 : tie.Need-returns-2
+returns-2 c = value-bytes _ _ _ (c .before .before .before .before .value .ensures) _ _ (c .before .before .place .given .1)
+
+pub value-bytes-spec : {M : Type 1} → statement M
+value-bytes-spec =
+    tie.close
+    (tie.spec
+    value-requires
+    enum-known-place
+    enum-told
+    slice-aggregate-result
+    returns
+    sub-result
+    part-result-start
+    part-result-end
+    returns-2)

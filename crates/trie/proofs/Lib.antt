@@ -1,0 +1,5 @@
+pub mod HeaderLaws
+pub mod TrieLaws
+pub mod LinkLaws
+pub mod Bounds
+pub mod Promises
