@@ -4,8 +4,8 @@ use mathlib.Core.List.{List, [], _∷_}
 use Prim.Native.Nat.{ℕ, _+_, _*_, _%_}
 use native.Mathlib.Omega.{arith}
 use lib.ListN.{length}
-use Rattle.property_info.specs.Serial.{dirty, updatedSerial, positions, position}
-use Rattle.property_info.proofs.Promises.{counter-low}
+use Rattle.serials.specs.Serial.{dirty, updatedSerial, positions, position}
+use Rattle.serials.proofs.Promises.{counter-low}
 use Rattle.counters.specs.Distance.{serialAfter}
 
 updated-low : (serial size : ℕ) → updatedSerial serial size % (2 * positions) ≡ (dirty serial + 1) % (2 * positions)

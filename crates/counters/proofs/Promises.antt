@@ -4,7 +4,7 @@ use mathlib.Core.List.{List}
 use Prim.Native.Nat.{ℕ, _+_, _%_, _<_}
 use native.Mathlib.Omega.{arith}
 use lib.ListN.{length}
-use Rattle.property_info.specs.Serial.{updatedSerial, positions, position}
+use Rattle.serials.specs.Serial.{updatedSerial, positions, position}
 use Rattle.counters.specs.Distance.{distance, serialAfter}
 use Rattle.counters.proofs.Laws.{position-after}
 use Rattle.counters.proofs.Laws as laws

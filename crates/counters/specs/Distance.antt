@@ -1,7 +1,7 @@
 -- Update distance (document 01).
 use Prim.Native.Nat.{ℕ, _+_, _-_, _%_}
 use mathlib.Core.List.{List, [], _∷_}
-use Rattle.property_info.specs.Serial.{updatedSerial, positions, position}
+use Rattle.serials.specs.Serial.{updatedSerial, positions, position}
 
 -- the difference of positions mod 32,768
 abbrev pub distance : ℕ → ℕ → ℕ

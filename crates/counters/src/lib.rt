@@ -1,8 +1,8 @@
 // How many updates lie between two serials of one entry.
 ghost use mathlib.Core.Path.{_≡_};
 ghost use Rattle.counters.specs.Distance.{distance};
-use property_info::POSITIONS;
-use property_info::position_of;
+use serials::POSITIONS;
+use serials::position_of;
 
 // The update distance from an earlier serial to a later one.
 pub fn update_distance(earlier: u32, later: u32) -> u32

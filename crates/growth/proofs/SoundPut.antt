@@ -7,7 +7,7 @@ use mathlib.Core.List.{List, [], _++_}
 use lib.ListN.{length, getD}
 use Rattle.words.specs.Words.{littleAt}
 use Rattle.layout.specs.Layout.{wordSize, usedField, magicField, nodeSize, propField, childrenField, entrySize, serialField, rootAt, backupAt, backupSize, firstFree, dataSize, byteOf, placeOf, headerWord, wordAt, nodeTakes, entryTakes}
-use Rattle.property_info.specs.Serial.{longIn}
+use Rattle.serials.specs.Serial.{longIn}
 use Rattle.sound.specs.Tree.{Entry, entry, short, Tree, node, link, entryLink, inside, valueCover, entryCover, cover}
 use Rattle.sound.specs.Sound.{nodeWords, ValueAt, EntryAt, TreeAt, Has, ValueRule, EntryRule, TreeRule, Front, Room, Sound}
 use Rattle.sound.specs.Ways.{Dir, reached}

@@ -10,7 +10,7 @@ use Rattle.words.specs.Words.{upToZero}
 use Rattle.words.specs.Stores.{run, wordStore, textStores}
 use Rattle.words.proofs.StoreLaws.{run-length}
 use Rattle.layout.specs.Layout.{wordSize, usedField, propField, entrySize, slotSize, dataSize, byteOf, placeOf, headerWord, entryTakes, valueTakes}
-use Rattle.property_info.specs.Serial.{longSerial, shortSerial}
+use Rattle.serials.specs.Serial.{longSerial, shortSerial}
 use Rattle.layout.proofs.Promises.{touch-yes}
 use Rattle.property_info.specs.Written.{shortStores, longStores}
 use Rattle.allocation.specs.Steps.{goes, andThen, linkTo}

@@ -8,7 +8,7 @@ use borrow.Author.Tests.{lt-ltb, le-ltb}
 use Rattle.words.specs.Words.{upToZero}
 use Rattle.finding.specs.Look.{valueText}
 use Rattle.layout.specs.Layout.{slotSize, dataSize, entryTakes, valueTakes}
-use Rattle.property_info.specs.Serial.{longSerial, shortSerial}
+use Rattle.serials.specs.Serial.{longSerial, shortSerial}
 use Rattle.allocation.specs.Steps.{Step, goes, stops}
 use Rattle.sound.specs.Tree.{Value, short, long, Entry, bare, entry, Tree, node}
 use Rattle.sound.specs.Sound.{Sound}

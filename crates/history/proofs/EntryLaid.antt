@@ -12,7 +12,7 @@ use Rattle.words.proofs.Laws.{put-length}
 use Rattle.words.proofs.StoreLaws.{run-append, run-length}
 use Rattle.words.proofs.Promises.{little-put-before, little-put-same}
 use Rattle.layout.specs.Layout.{wordSize, wordMax, byteOf, placeOf, wordAt, entryTakes, valueTakes}
-use Rattle.property_info.specs.Serial.{longSerial, longIn, shortSerial}
+use Rattle.serials.specs.Serial.{longSerial, longIn, shortSerial}
 use Rattle.layout.specs.Layout.{entrySize, serialField, slotField, slotSize, messageField, messageSize, messageLength, longOffsetField}
 use Rattle.property_info.specs.Written.{shortStores, message, longStores}
 use Rattle.sound.specs.Tree.{short, long, entry, inside}

@@ -16,7 +16,7 @@ use Rattle.names.specs.Names.{segments}
 use Rattle.layout.specs.declared.refusal.Refusal.{Refusal}
 use Rattle.layout.specs.Layout.{usedField, headerWord}
 use Rattle.layout.specs.Refusals.{numberOf, noRefusal, Outcome, leaves, numberIn, bytesIn}
-use Rattle.property_info.specs.Serial.{updatedSerial}
+use Rattle.serials.specs.Serial.{updatedSerial}
 use Rattle.counters.specs.Distance.{serialAfter}
 use Rattle.allocation.specs.Steps.{Step, goes, stops, outcome, total}
 use Rattle.builder.specs.Add.{addSteps}

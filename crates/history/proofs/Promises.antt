@@ -16,7 +16,7 @@ use Rattle.layout.specs.Layout.{wordMax, areaMax, rootAt, serialField, slotSize
 use Rattle.layout.specs.Refusals.{accepted, refused, refuse, numberOf, noRefusal, acceptLeaving, numberIn, bytesIn}
 use Rattle.property_area.specs.Find.{hit, findSteps}
 use Rattle.property_area.specs.Lookup.{shown}
-use Rattle.property_info.specs.Serial.{positions}
+use Rattle.serials.specs.Serial.{positions}
 use Rattle.counters.specs.Distance.{distance}
 use Rattle.allocation.specs.Steps.{total}
 use Rattle.builder.specs.Fresh.{fresh}

@@ -13,7 +13,7 @@ use Rattle.layout.specs.Layout.{areaMax, serialField, firstFree, formatMin, wor
 use Rattle.layout.specs.Refusals.{accepted, refuse}
 use Rattle.property_area.specs.Find.{hit, findSteps}
 use Rattle.property_area.specs.Lookup.{shown}
-use Rattle.property_info.specs.Serial.{positions}
+use Rattle.serials.specs.Serial.{positions}
 use Rattle.counters.specs.Distance.{distance, serialAfter}
 use Rattle.counters.proofs.Promises.{distance-counts}
 use Rattle.builder.specs.Fresh.{fresh}

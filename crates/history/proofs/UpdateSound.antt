@@ -11,7 +11,7 @@ use Rattle.words.proofs.Laws.{clash}
 use Rattle.layout.specs.declared.refusal.Refusal.{Refusal}
 use Rattle.layout.specs.Layout.{entrySize, serialField, slotSize, firstFree, byteOf, placeOf, entryTakes}
 use Rattle.layout.specs.Refusals.{Answer, accepted, refused, Outcome, leaves, acceptLeaving, refuseLeaving}
-use Rattle.property_info.specs.Serial.{updatedSerial}
+use Rattle.serials.specs.Serial.{updatedSerial}
 use Rattle.property_info.proofs.Laws.{long-is}
 use Rattle.property_area.specs.Find.{Hit, hit, byHit, findSteps}
 use Rattle.updates.specs.Update.{updateStores, updateEntry, updateSteps}

@@ -13,12 +13,12 @@ use Rattle.words.proofs.StoreLaws.{run-append, run-length}
 use Rattle.words.proofs.Promises.{little-put-same}
 use Rattle.layout.specs.Layout.{wordSize, entrySize, serialField, slotField, slotSize, backupAt, backupSize, firstFree, dataSize, byteOf, placeOf}
 use Rattle.layout.specs.Refusals.{acceptLeaving}
-use Rattle.property_info.specs.Serial.{dirty, updatedSerial}
+use Rattle.serials.specs.Serial.{dirty, updatedSerial}
 use Rattle.property_info.specs.Entry.{isLong}
 use Rattle.property_info.specs.Written.{writeStores}
 use Rattle.property_info.proofs.Laws.{short-is}
 use Rattle.property_info.proofs.WrittenLaws.{write-run}
-use Rattle.property_info.proofs.Promises.{updated-short}
+use Rattle.serials.proofs.Promises.{updated-short}
 use Rattle.updates.specs.Update.{backupStores, slotText, updateStores, updateEntry}
 use Rattle.updates.proofs.Laws.{value-fine}
 use Rattle.sound.specs.Tree.{short, entry, inside}

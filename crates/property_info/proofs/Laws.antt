@@ -11,7 +11,7 @@ use Rattle.layout.specs.declared.text.Span.{Span}
 use Rattle.layout.specs.declared.text.Span.the-variants.{Bytes, Broken}
 use Rattle.layout.specs.Layout.{entrySize, serialField, longOffsetField, placeOf, wordAt}
 use Rattle.layout.proofs.Laws.{Stands, text-past, text-stands}
-use Rattle.property_info.specs.Serial.{longIn}
+use Rattle.serials.specs.Serial.{longIn}
 use Rattle.property_info.specs.Entry.{isLong, shortValue, nameOf, textFrom, longValue, valueOf}
 
 -- ---- long or short, by the serial

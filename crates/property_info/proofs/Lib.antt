@@ -1,5 +1,4 @@
 pub mod Laws
 pub mod WrittenLaws
 pub mod Lies
-pub mod SerialLaws
 pub mod Promises

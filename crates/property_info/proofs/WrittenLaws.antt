@@ -1,27 +1,14 @@
--- Laws of specs/Serial.antt and specs/Written.antt: the serial as code computes it, and each run of stores as code makes it.
+-- Laws of specs/Written.antt: each run of stores as code makes it.
 use mathlib.Core.Path.{_≡_, refl}
 use mathlib.Core.List.{List, [], _∷_}
-use Prim.Native.Nat.{ℕ, _+_, _-_, _*_, _/_, _%_, _^_}
-use native.Mathlib.Omega.{arith}
+use Prim.Native.Nat.{ℕ}
 use lib.ListN.{length}
 use Rattle.words.specs.Words.{littleBytes, put}
 use Rattle.words.specs.Stores.{run, wordStore, textStores}
 use Rattle.words.proofs.StoreLaws.{run-append}
 use Rattle.layout.specs.Layout.{serialField, slotField, placeOf}
-use Rattle.property_info.specs.Serial.{longBit, lengthUnit, longIn, shortSerial, dirty, counterBits, updatedSerial}
+use Rattle.serials.specs.Serial.{shortSerial, dirty, updatedSerial}
 use Rattle.property_info.specs.Written.{shortStores, writeStores}
-
--- ---- the counter may wrap at 32 bits: its low 24 are the same
-counter-wraps : (n : ℕ) → counterBits (n % 2 ^ 32) ≡ counterBits n
-counter-wraps n =
-    let e : n % 2 ^ 32 % lengthUnit ≡ n % lengthUnit = omega arith in
-    let f : longIn (n % 2 ^ 32) ≡ longIn n = omega arith in
-    rw (e, f)
-
-pub next-serial : (serial size counter : ℕ) → counter ≡ (dirty serial + 1) % 2 ^ 32 → (bit : ℕ) → bit ≡ longIn counter → (top : ℕ) → top ≡ shortSerial size
-    → counter % lengthUnit - bit * longBit + top ≡ updatedSerial serial size
-unfolding updatedSerial
-next-serial serial size counter e bit f top g = rw (f, g, e) (rw (counter-wraps (dirty serial + 1)))
 
 -- ---- an entry's stores
 pub short-run : (area : List ℕ) (at : ℕ) (value : List ℕ)

@@ -7,7 +7,7 @@ use lib.Dec.{eqb, leb}
 use Rattle.words.specs.Words.{firstIn}
 use Rattle.layout.specs.declared.text.Span.{Span}
 use Rattle.layout.specs.declared.text.Span.the-variants.{Bytes, Broken}
-use Rattle.property_info.specs.Serial.{longIn}
+use Rattle.serials.specs.Serial.{longIn}
 use Rattle.layout.specs.Refusals.{guard}
 use Rattle.layout.specs.Layout.{serialField, slotField, slotSize, longOffsetField, entrySize, entryTakes, placeOf, wordAt, textIn}
 

@@ -4,7 +4,7 @@ use mathlib.Core.List.{List, [], _∷_, _++_}
 use lib.ListN.{length, replicate}
 use Rattle.words.specs.Stores.{Store, store, wordStore, textStores}
 use Rattle.layout.specs.Layout.{serialField, slotField, messageField, messageLength, messageSize, longOffsetField, placeOf}
-use Rattle.property_info.specs.Serial.{shortSerial, longSerial, dirty, updatedSerial}
+use Rattle.serials.specs.Serial.{shortSerial, longSerial, dirty, updatedSerial}
 
 -- a short entry: slot bytes after the value's zero are not written
 unfoldable pub shortStores : ℕ → List ℕ → List Store

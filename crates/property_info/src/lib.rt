@@ -6,19 +6,14 @@ ghost use Rattle.words.specs.Stores.{run};
 ghost use Rattle.layout.specs.Layout.{EntryIn, slotSize};
 ghost use Rattle.property_info.specs.Entry.{isLong, shortValue, nameOf, longValue, valueOf};
 ghost use Rattle.property_info.specs.Written.{shortStores, longStores, writeStores};
-
-mod serial;
-
-use crate::serial::dirty_serial;
-use crate::serial::long_serial;
-use crate::serial::next_serial;
-use crate::serial::says_long;
-use crate::serial::short_serial;
 use layout::Entry;
 use layout::Header;
 use layout::Span;
-pub use serial::POSITIONS;
-pub use serial::position_of;
+use serials::dirty_serial;
+use serials::long_serial;
+use serials::next_serial;
+use serials::says_long;
+use serials::short_serial;
 
 pub fn is_long(area: &[u8], entry: Entry) -> bool
     requires { ⌜ EntryIn (now area) (entry .at) ⌝ }

@@ -9,7 +9,7 @@ use Rattle.names.specs.Names.{segments, segmentOrder, byteOrder}
 use Rattle.layout.specs.Layout.{usedField, rootAt, childrenField, leftField, propField, serialField, longOffsetField, headerWord, wordAt, touch, textIn}
 use Rattle.layout.specs.Refusals.{refused, Outcome, numberIn, bytesIn}
 use Rattle.property_info.specs.Entry.{isLong, shortValue, nameOf, longValue, valueOf}
-use Rattle.property_info.specs.Serial.{updatedSerial}
+use Rattle.serials.specs.Serial.{updatedSerial}
 use Rattle.property_info.specs.Written.{shortStores, longStores, message, writeStores}
 use Rattle.trie.specs.Header.{headerOk}
 use Rattle.trie.specs.Trie.{visitNode, searchFrom, segmentSteps}

@@ -9,7 +9,7 @@ use Rattle.names.specs.Names.{dot, segmentOrder}
 use Rattle.names.specs.declared.Order.{Order}
 use Rattle.names.specs.declared.Order.the-variants.{Less, Greater}
 use Rattle.layout.specs.Layout.{wordSize, usedField, nodeSize, entrySize, serialField, slotField, slotSize, longOffsetField, rootAt, childrenField, firstFree, dataSize, byteOf, placeOf, headerWord, wordAt, entryTakes}
-use Rattle.property_info.specs.Serial.{longIn}
+use Rattle.serials.specs.Serial.{longIn}
 use Rattle.trie.specs.Header.{headerOk}
 use Rattle.sound.specs.Tree.{Value, short, long, Entry, bare, entry, Tree, leaf, node, link, entryLink, inside, cover}
 

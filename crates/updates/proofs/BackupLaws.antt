@@ -8,7 +8,7 @@ use Rattle.words.specs.Stores.{run, wordStore, textStores}
 use Rattle.words.proofs.Laws.{put-same}
 use Rattle.words.proofs.StoreLaws.{run-append, run-bytes, Behind, none, one, behind-append, behind-bytes, run-before}
 use Rattle.layout.specs.Layout.{serialField, slotField, slotSize, backupAt, firstFree, byteOf, placeOf, wordAt}
-use Rattle.property_info.specs.Serial.{dirty}
+use Rattle.serials.specs.Serial.{dirty}
 use Rattle.property_info.specs.Written.{writeStores}
 use Rattle.updates.specs.Update.{backupStores, slotText, updateStores}
 

@@ -13,7 +13,7 @@ use Rattle.names.specs.Names.{segmentOrder}
 use Rattle.names.specs.declared.Order.{Order}
 use Rattle.names.specs.declared.Order.the-variants.{Less, Equal, Greater}
 use Rattle.layout.specs.Layout.{wordSize, propField, entrySize, serialField, slotField, slotSize, longOffsetField, firstFree, byteOf, placeOf, wordAt, entryTakes, valueTakes}
-use Rattle.property_info.specs.Serial.{longIn}
+use Rattle.serials.specs.Serial.{longIn}
 use Rattle.property_info.specs.Entry.{isLong}
 use Rattle.property_info.proofs.Laws.{long-says, short-says}
 use Rattle.sound.specs.Tree.{Value, short, long, Entry, bare, entry, entryLink, listedOwn, inside, valueCover, entryCover}

@@ -10,7 +10,7 @@ use borrow.Author.Tests.{eq-eqb, ne-eqb, le-leb, lt-ltb}
 use Rattle.names.specs.Names.{segmentOrder}
 use Rattle.names.specs.declared.Order.the-variants.{Less}
 use Rattle.layout.specs.Layout.{wordSize, propField, entrySize, serialField, slotField, longOffsetField, firstFree, byteOf, placeOf, wordAt, entryTakes, valueTakes}
-use Rattle.property_info.specs.Serial.{longIn}
+use Rattle.serials.specs.Serial.{longIn}
 use Rattle.property_info.proofs.Laws.{long-is, short-is}
 use Rattle.sound.specs.Tree.{Value, short, long, Entry, bare, entry, entryLink, listedOwn, inside, valueCover, entryCover}
 use Rattle.sound.specs.Sound.{Holds, HoldsText, Without, ValueAt, EntryAt, ValueRule, EntryRule}

@@ -1,10 +1,23 @@
--- The serial that an update leaves, by its bits: those that count, the one that says long, those above it, and the length.
+-- The serial that an update leaves: as code computes it, and by its bits: those that count, the one that says long, those above it, and the length.
 use mathlib.Core.Path.{_≡_, _∙_, ap}
-use Prim.Native.Nat.{ℕ, _+_, _-_, _*_, _/_, _%_, _<_}
+use Prim.Native.Nat.{ℕ, _+_, _-_, _*_, _/_, _%_, _^_, _<_}
 use native.Mathlib.Nat.{div-div-eq-div-mul}
 use native.Mathlib.Omega.{arith}
-use Rattle.property_info.specs.Serial.{longBit, lengthUnit, longIn, oddIn, lengthIn, dirty, counterBits, updatedSerial, shortSerial}
+use Rattle.serials.specs.Serial.{longBit, lengthUnit, longIn, oddIn, lengthIn, dirty, counterBits, updatedSerial, shortSerial}
 
+-- ---- the counter may wrap at 32 bits: its low 24 are the same
+counter-wraps : (n : ℕ) → counterBits (n % 2 ^ 32) ≡ counterBits n
+counter-wraps n =
+    let e : n % 2 ^ 32 % lengthUnit ≡ n % lengthUnit = omega arith in
+    let f : longIn (n % 2 ^ 32) ≡ longIn n = omega arith in
+    rw (e, f)
+
+pub next-serial : (serial size counter : ℕ) → counter ≡ (dirty serial + 1) % 2 ^ 32 → (bit : ℕ) → bit ≡ longIn counter → (top : ℕ) → top ≡ shortSerial size
+    → counter % lengthUnit - bit * longBit + top ≡ updatedSerial serial size
+unfolding updatedSerial
+next-serial serial size counter e bit f top g = rw (f, g, e) (rw (counter-wraps (dirty serial + 1)))
+
+-- ---- its bits
 pub counter-low : (n size : ℕ) → (counterBits n + shortSerial size) % longBit ≡ n % longBit
 counter-low n size =
     let e : n / longBit / 256 ≡ n / lengthUnit = div-div-eq-div-mul n longBit 256 in

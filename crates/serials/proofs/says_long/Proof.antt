@@ -1,7 +1,7 @@
 -- `says_long` asks for the bit that `longIn` says. Assumes nothing.
 use borrow.Author.Needs.{needs}
-use Rattle.property_info.proofs.serial.says_long.Statement.{statement}
-use Rattle.property_info.proofs.serial.says_long.Tie as tie
+use Rattle.serials.proofs.says_long.Statement.{statement}
+use Rattle.serials.proofs.says_long.Tie as tie
 
 long-in-requires : tie.Need-long-in-requires
 long-in-requires c κs = search needs

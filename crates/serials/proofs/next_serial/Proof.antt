@@ -1,8 +1,8 @@
 -- `next_serial` gives the serial that `updatedSerial` says. Assumes nothing.
-use Rattle.property_info.proofs.WrittenLaws.{next-serial}
+use Rattle.serials.proofs.Laws.{next-serial}
 use borrow.Author.Needs.{needs}
-use Rattle.property_info.proofs.serial.next_serial.Statement.{statement}
-use Rattle.property_info.proofs.serial.next_serial.Tie as tie
+use Rattle.serials.proofs.next_serial.Statement.{statement}
+use Rattle.serials.proofs.next_serial.Tie as tie
 
 dirty-serial-requires : tie.Need-dirty-serial-requires
 dirty-serial-requires c κs = search needs

@@ -3,7 +3,7 @@ ghost use mathlib.Core.Path.{_≡_};
 ghost use Prim.Native.Nat.{_<_};
 ghost use lib.Dec.{eqb};
 ghost use Rattle.layout.specs.Layout.{slotSize};
-ghost use Rattle.property_info.specs.Serial.{longIn, shortSerial, longSerial, dirty, updatedSerial, position};
+ghost use Rattle.serials.specs.Serial.{longIn, shortSerial, longSerial, dirty, updatedSerial, position};
 use layout::Entry;
 
 // The serial's bit that tells a long entry.
