@@ -1,4 +1,4 @@
--- What the answers promise: the lookup prints what the history speaks of; no second outcome, of the answer, the turn, the end and the dump, the lent bytes with them.
+-- What the answers promise: the lookup prints what the history speaks of; no second outcome, of the answer, the turn and the end, the lent bytes with them.
 -- A turn's places are one by Reaching; all else is proved here, in a line or two.
 use Prim.Native.Nat.{ℕ, _≤_}
 use mathlib.Core.Path.{_≡_, sym, _∙_}
@@ -7,10 +7,9 @@ use mathlib.Core.List.{List}
 use borrow.Author.Tests.{le-leb}
 use lib.ListN.{length}
 use Rattle.property_area.specs.Lookup.{shown}
-use Rattle.audit.proofs.Promises.{every-judged}
 use Rattle.texts.specs.Text.{saying, said}
 use Rattle.texts.proofs.Promises.{one-said}
-use Rattle.answers.specs.Answers.{nameMax, fileOk, askSteps, answerLine, answerText, dumps, DumpSays}
+use Rattle.answers.specs.Answers.{nameMax, fileOk, askSteps, answerLine, answerText}
 use Rattle.answers.specs.Lines.{turned, turnSteps, endSteps}
 use Rattle.answers.specs.declared.Progress.{Progress}
 use Rattle.answers.proofs.Reaching.{same-progress}
@@ -34,10 +33,3 @@ one-turn area input from line have out at r s a b c d p q =
 
 pub one-finish : (area held out : List ℕ) (at r s : ℕ) (a b : List ℕ) → saying r a ≡ endSteps area held out at → saying s b ≡ endSteps area held out at → (r ≡ s) × (a ≡ b)
 one-finish area held out at r s a b p q = let e : saying r a ≡ saying s b = p ∙ sym q in ((cc), (cc))
-
--- ---- no second outcome of a dump, whichever way the area is judged
-pub one-dump : (area scratch list out : List ℕ) (r s : ℕ) (a b c d f g : List ℕ) → DumpSays area scratch list out r a c f
-    → DumpSays area scratch list out s b d g → (r ≡ s) × (a ≡ b) × (c ≡ d) × (f ≡ g)
-one-dump area scratch list out r s a b c d f g p q =
-    let e : dumps (saying r a) c f ≡ dumps (saying s b) d g = p (every-judged area) ∙ sym (q (every-judged area)) in
-    ((cc), (cc), (cc), (cc))

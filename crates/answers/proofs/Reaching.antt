@@ -7,12 +7,10 @@ use mathlib.Core.List.{List}
 use lib.Dec.{eqb}
 use lib.ListN.{length, take}
 use Rattle.words.proofs.Laws.{bool-cases}
-use Rattle.texts.specs.Text.{Fed, fed, feed, saying, said}
+use Rattle.texts.specs.Text.{Fed, fed, feed, saying}
 use Rattle.texts.proofs.Laws.{said-within}
 use Rattle.texts.proofs.Promises.{feed-fits, next-moves}
-use Rattle.audit.specs.Check.{Listing, lists}
-use Rattle.audit.proofs.Promises.{every-judged}
-use Rattle.answers.specs.Answers.{answerText, dumps, dumpText, dumpListing, fileListing, DumpSays}
+use Rattle.answers.specs.Answers.{answerText}
 use Rattle.answers.specs.Lines.{turned, turnFed, turnSteps, endSteps}
 use Rattle.answers.specs.declared.Progress.{Progress}
 
@@ -30,16 +28,6 @@ end-within area held out at next after h e =
     let a : after ≡ out = cc in
     record { place = rw (n, a) h; size = rw a })
     (λ t. let w = said-within out at (answerText area held) next after (rw t at e) in record { place = w .0; size = w .1 })
-
-pub dump-within : (area scratch list out : List ℕ) (next : ℕ) (after left noted : List ℕ)
-    → DumpSays area scratch list out next after left noted → Fits out after next
-dump-within area scratch list out next after left noted e = by (fileListing area scratch list (every-judged area)) (e (every-judged area))
-  where
-    by : (l : Listing) → dumps (saying next after) left noted ≡ dumpListing area out l → Fits out after next
-    by (lists answer s n) q =
-        let p : saying next after ≡ said out 0 (dumpText area answer n) = cc in
-        let w = said-within out 0 (dumpText area answer n) next after p in
-        record { place = w .0; size = w .1 }
 
 -- a turn also leaves the line its length, holds no more than it, and the input goes on behind where it was
 module _ (area input : List ℕ) (from : ℕ) (line : List ℕ) (have : ℕ) (out : List ℕ) (at has next : ℕ) (grown : List ℕ) (told : ℕ) (after : List ℕ)

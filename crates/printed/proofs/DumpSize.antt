@@ -14,7 +14,8 @@ use Rattle.finding.specs.Look.{valueText}
 use Rattle.audit.specs.Check.{usedOf, Judged, sound, unsound}
 use Rattle.texts.specs.Text.{digitsMax}
 use Rattle.texts.proofs.Promises.{escaped-few, decimal-few}
-use Rattle.answers.specs.Answers.{fileMax, textMax, fileOk, headText}
+use Rattle.answers.specs.Answers.{fileMax, textMax, fileOk}
+use Rattle.dumping.specs.Dump.{headText}
 use Rattle.printed.specs.Printed.{ownLine, treeLines, judgedDump, fileDump}
 use Rattle.printed.proofs.Sizes.{refused-small, file-fits}
 

@@ -17,7 +17,8 @@ use Rattle.sound.specs.Tree.{listed}
 use Rattle.audit.specs.Check.{usedOf, Judged, sound, unsound, Listing, lists, surveySteps, listSteps}
 use Rattle.audit.proofs.Promises.{list-accepts, listed-few}
 use Rattle.texts.proofs.Laws.{put-front}
-use Rattle.answers.specs.Answers.{fileMax, dumpText, fileListing}
+use Rattle.answers.specs.Answers.{fileMax}
+use Rattle.dumping.specs.Dump.{dumpText, fileListing}
 use Rattle.printed.specs.Printed.{judgedDump, fileDump}
 use Rattle.printed.proofs.TreeLines.{tree-lines}
 

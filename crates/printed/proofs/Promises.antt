@@ -10,8 +10,9 @@ use Rattle.sound.specs.Tree.{Tree, listed}
 use Rattle.sound.specs.Sound.{Without, Sound}
 use Rattle.audit.specs.Check.{Judged, lists}
 use Rattle.texts.specs.Text.{Said, feed, saying, said, lineFeed}
-use Rattle.answers.specs.Answers.{fileMax, nameMax, textMax, answerText, entryLines, dumpText, fileListing, DumpSays}
+use Rattle.answers.specs.Answers.{fileMax, nameMax, textMax, answerText}
 use Rattle.answers.specs.Lines.{lookupText, turned, turnSteps, endSteps}
+use Rattle.dumping.specs.Dump.{entryLines, dumpText, fileListing, DumpSays}
 use Rattle.printed.specs.Printed.{treeLines, fileDump, fedText, fedHeld, fedNext, endText, Served, joined}
 use Rattle.printed.proofs.TreeLines as treeLaws
 use Rattle.printed.proofs.Sizes as sizes

@@ -12,7 +12,7 @@ use Rattle.finding.specs.Look.{valueText}
 use Rattle.finding.proofs.NodeReads.{Standing, stands-whole, stands-left, stands-below, stands-right}
 use Rattle.finding.proofs.Spelling.{ownOf}
 use Rattle.finding.proofs.ValueReads.{part-shown, own-reads}
-use Rattle.answers.specs.Answers.{entryLine, entryLines}
+use Rattle.dumping.specs.Dump.{entryLine, entryLines}
 use Rattle.printed.specs.Printed.{ownLine, treeLines}
 
 lines-append : (area a b : List ℕ) → entryLines area (a ++ b) ≡ entryLines area a ++ entryLines area b

@@ -12,8 +12,9 @@ use Rattle.sound.specs.Sound.{Without}
 use Rattle.texts.specs.Text.{Fed, fed, feed, saying, said, lineFeed}
 use Rattle.texts.proofs.Laws.{said-none}
 use Rattle.texts.proofs.Promises.{said-stands}
-use Rattle.answers.specs.Answers.{fileMax, nameMax, textMax, answerText, dumpText, dumps, dumpListing, fileListing, DumpSays}
+use Rattle.answers.specs.Answers.{fileMax, nameMax, textMax, answerText}
 use Rattle.answers.specs.Lines.{lookupText, turned, turnSteps, endSteps}
+use Rattle.dumping.specs.Dump.{dumpText, dumps, dumpListing, fileListing, DumpSays}
 use Rattle.printed.specs.Printed.{fileDump, fedText, fedHeld, fedNext, endText}
 use Rattle.printed.proofs.Sizes.{answer-small}
 use Rattle.printed.proofs.DumpSize.{dump-small}

@@ -10,7 +10,8 @@ use Rattle.sound.specs.Tree.{Entry, bare, entry, Tree, leaf, node, listed}
 use Rattle.finding.specs.Look.{valueText}
 use Rattle.audit.specs.Check.{usedOf, Judged, sound, unsound}
 use Rattle.texts.specs.Text.{escaped, saying, Fed, fed, feed}
-use Rattle.answers.specs.Answers.{nameMax, opening, between, closing, refusedText, fileOk, answerText, headText}
+use Rattle.answers.specs.Answers.{nameMax, refusedText, fileOk, answerText}
+use Rattle.dumping.specs.Dump.{opening, between, closing, headText}
 
 -- ---- the lines of a tree's entries, in listing order
 unfoldable pub ownLine : Entry → List ℕ

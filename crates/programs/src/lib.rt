@@ -1,4 +1,4 @@
-// The programs dump and lookup. They move bytes: a file's and an input's into buffers, the texts of the crate answers to standard output.
+// The programs dump and lookup. They move bytes: a file's and an input's into buffers, the texts of the crates answers and dumping to standard output.
 ghost use mathlib.Core.Path.{_≡_};
 ghost use mathlib.Core.List.{List, []};
 ghost use Prim.Native.Nat.{ℕ, _≤_, _<_};
@@ -66,7 +66,7 @@ fn dump_text(area: &[u8], out: &mut [u8]) -> usize
 {
     let mut scratch = [0u8; SCRATCH_SPACE];
     let mut list = [0u32; ENTRIES_MAX];
-    answers::dump(area, &mut scratch, &mut list, out)
+    dumping::dump(area, &mut scratch, &mut list, out)
 }
 
 fn print_dump(area: &[u8]) {

@@ -2,7 +2,7 @@
 use Prim.Native.Nat.{ℕ, _*_, _/_, _≤_}
 use native.Mathlib.Omega.{arith}
 use Rattle.answers.specs.Answers.{fileMax}
-use Rattle.answers.proofs.Reaching.{dump-within}
+use Rattle.dumping.proofs.Reaching.{dump-within}
 use Rattle.printed.proofs.Dumping.{entriesMax}
 use Rattle.printed.proofs.Promises.{dump-whole}
 use Rattle.programs.proofs.Laws.{lends}

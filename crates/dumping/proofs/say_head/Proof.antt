@@ -1,8 +1,8 @@
 -- `say_head` leaves what `said` says of the dump's first line: one text after another. Assumes nothing.
 use Rattle.texts.proofs.Laws.{said-then}
 use borrow.Author.Needs.{needs}
-use Rattle.answers.proofs.say_head.Statement.{statement}
-use Rattle.answers.proofs.say_head.Tie as tie
+use Rattle.dumping.proofs.say_head.Statement.{statement}
+use Rattle.dumping.proofs.say_head.Tie as tie
 
 slice-aggregate-say : tie.Need-slice-aggregate-say
 slice-aggregate-say c = search needs

@@ -1,10 +1,10 @@
 -- `list_file` answers what `fileListing` says: a law for each way out. Assumes nothing.
 use mathlib.Core.Path.{_∙_}
 use native.Mathlib.Omega.{arith}
-use Rattle.answers.proofs.Laws.{file-large, file-small}
+use Rattle.dumping.proofs.Laws.{file-large, file-small}
 use borrow.Author.Needs.{needs}
-use Rattle.answers.proofs.list_file.Statement.{statement}
-use Rattle.answers.proofs.list_file.Tie as tie
+use Rattle.dumping.proofs.list_file.Statement.{statement}
+use Rattle.dumping.proofs.list_file.Tie as tie
 
 returns : tie.Need-returns
 returns c = file-large _ _ _ (omega arith)

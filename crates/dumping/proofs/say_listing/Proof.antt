@@ -1,8 +1,8 @@
 -- `say_listing` leaves what `said` says of the first line and the entries' lines. Assumes nothing.
 use Rattle.texts.proofs.Laws.{said-then, said-within}
 use borrow.Author.Needs.{needs}
-use Rattle.answers.proofs.say_listing.Statement.{statement}
-use Rattle.answers.proofs.say_listing.Tie as tie
+use Rattle.dumping.proofs.say_listing.Statement.{statement}
+use Rattle.dumping.proofs.say_listing.Tie as tie
 
 word-requires : tie.Need-word-requires
 word-requires c κs = search needs

@@ -5,7 +5,7 @@ use mathlib.Core.List.{List, _++_}
 use lib.ListN.{length}
 use Rattle.audit.specs.declared.checking.Listed.{Listed}
 use Rattle.audit.specs.Check.{usedOf, Judged, lists, listedAnswer}
-use Rattle.answers.specs.Answers.{headText, entryLines, fileListing}
+use Rattle.dumping.specs.Dump.{headText, entryLines, fileListing}
 
 -- the dump of an area with these entries
 abbrev pub listingText : List ℕ → List ℕ → List ℕ

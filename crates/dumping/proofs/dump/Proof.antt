@@ -1,8 +1,8 @@
 -- `dump` leaves what `dumpSteps` says: the text of the listing, or its refusal. Assumes nothing.
-use Rattle.answers.proofs.Laws.{dump-fits, dump-counts, dump-marked, dump-entries, dump-refused}
+use Rattle.dumping.proofs.Laws.{dump-fits, dump-counts, dump-marked, dump-entries, dump-refused}
 use borrow.Author.Needs.{needs}
-use Rattle.answers.proofs.dump.Statement.{statement}
-use Rattle.answers.proofs.dump.Tie as tie
+use Rattle.dumping.proofs.dump.Statement.{statement}
+use Rattle.dumping.proofs.dump.Tie as tie
 
 list-file-requires : tie.Need-list-file-requires
 list-file-requires c κs = search needs

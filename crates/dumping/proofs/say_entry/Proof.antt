@@ -1,9 +1,9 @@
 -- `say_entry` leaves what `said` says of the entry's line: one text after another. Assumes nothing.
-use Rattle.answers.specs.Answers.{entryLine}
+use Rattle.dumping.specs.Dump.{entryLine}
 use Rattle.texts.proofs.Laws.{said-then}
 use borrow.Author.Needs.{needs}
-use Rattle.answers.proofs.say_entry.Statement.{statement}
-use Rattle.answers.proofs.say_entry.Tie as tie
+use Rattle.dumping.proofs.say_entry.Statement.{statement}
+use Rattle.dumping.proofs.say_entry.Tie as tie
 
 slice-aggregate-say : tie.Need-slice-aggregate-say
 slice-aggregate-say c = search needs

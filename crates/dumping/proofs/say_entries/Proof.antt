@@ -6,11 +6,11 @@ use native.Mathlib.Omega.{arith}
 use lib.ListN.{length, drop}
 use Rattle.texts.specs.Text.{said}
 use Rattle.texts.proofs.Laws.{said-within}
-use Rattle.answers.specs.Answers.{entryLines}
+use Rattle.dumping.specs.Dump.{entryLines}
 use borrow.Author.Needs.{needs}
-use Rattle.answers.proofs.Laws.{lines-turn, lines-end}
-use Rattle.answers.proofs.say_entries.Statement.{statement}
-use Rattle.answers.proofs.say_entries.Tie as tie
+use Rattle.dumping.proofs.Laws.{lines-turn, lines-end}
+use Rattle.dumping.proofs.say_entries.Statement.{statement}
+use Rattle.dumping.proofs.say_entries.Tie as tie
 
 abbrev Inv-loop : tie.InvT-loop
 Inv-loop area offsets out₀ at next₀ taken₀ out next taken =
