@@ -4,8 +4,9 @@
 mod build_files;
 
 use build_files::{folder, read, stop};
+use std::fs;
 use std::path::{Path, PathBuf};
-use std::{env, fs};
+use std::process::Command;
 
 /// The files that are read, with a checksum (FNV-1a, 64 bits, over the lines) of the text at baa8c490b1. All but lib.rs, of
 /// which one function is cut out, are compiled whole and unchanged.
@@ -39,19 +40,15 @@ fn main() {
     fs::write(out.join("modules.rs"), modules(&source, &out)).unwrap();
 }
 
-/// `RSPROPERTIES_SRC`, or `shared/docs/src` beside the project's top folder.
+/// What `oracle/source` prints; its sentence, where it finds nothing.
 fn source_folder() -> PathBuf {
-    let beside = || folder("CARGO_MANIFEST_DIR").join("../../../shared/docs/src");
-    let top = env::var_os("RSPROPERTIES_SRC").map_or_else(beside, PathBuf::from);
-    let source = top.join("rsproperties/src");
-    if !source.join("property_area.rs").is_file() {
-        stop(&format!(
-            "there is no {}.\nThe Rust that is compared with is hiking90/rsproperties at commit baa8c490b1: check it out\n\
-             and set RSPROPERTIES_SRC to that folder (an absolute path).",
-            source.join("property_area.rs").display()
-        ));
+    let script = folder("CARGO_MANIFEST_DIR").join("../../oracle/source");
+    println!("cargo::rerun-if-changed={}", script.display());
+    let told = Command::new(&script).output().unwrap_or_else(|error| stop(&format!("{}: {error}", script.display())));
+    if !told.status.success() {
+        stop(String::from_utf8_lossy(&told.stderr).trim_end());
     }
-    source.canonicalize().unwrap()
+    String::from_utf8_lossy(&told.stdout).trim_end().into()
 }
 
 /// The module tree: the original's own, and the counted copy beside it.

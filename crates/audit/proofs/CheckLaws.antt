@@ -27,6 +27,7 @@ use Rattle.probes.specs.Limits.{UsedIn}
 use Rattle.tour.specs.View.{toured}
 use Rattle.audit.specs.View.{judgedAnswer, countSteps}
 use Rattle.audit.specs.declared.checking.Listed.{Listed}
+use Rattle.audit.proofs.SurveyLaws.{survey-header, survey-scratch, survey-damaged, survey-sound}
 
 pub blank-zero : (scratch marks : List ℕ) → marks ≡ blank scratch → Blank marks
 blank-zero scratch marks e i = ap (λ (m : List ℕ). getD m i 0) e ∙ by (decLt i (length scratch))
@@ -94,21 +95,16 @@ tree-judged area tree S n e (unsound none) = absurd (none tree S)
 
 module _ (area scratch : List ℕ) where
   pub count-header : headerOk area ≡ false → (judged : Judged area) → lists (refuse Refusal.BadHeader) scratch [] ≡ countSteps area scratch judged
-  unfolding surveySteps
-  count-header h (sound tree S) = rw h refl
-  count-header h (unsound none) = rw h refl
+  count-header h judged = sym (survey-header area scratch _ _ h judged)
 
   module _ (header : headerOk area ≡ true) where
     pub count-short : length scratch < length area / wordSize → (judged : Judged area) → lists (refuse Refusal.ShortBuffer) scratch [] ≡ countSteps area scratch judged
-    unfolding surveySteps
-    count-short h (sound tree S) = rw (header, lt-leb (length area / wordSize) (length scratch) h) refl
-    count-short h (unsound none) = rw (header, lt-leb (length area / wordSize) (length scratch) h) refl
+    count-short h judged = sym (survey-scratch area scratch _ _ header h judged)
 
     pub count-judged : length area / wordSize ≤ length scratch → (answer : Answer ℕ) → (after : List ℕ) → after ≡ blank scratch → ((judged : Judged area) → answer ≡ judgedAnswer judged)
         → (judged : Judged area) → lists answer after [] ≡ countSteps area scratch judged
-    unfolding surveySteps
-    count-judged room answer after e f (sound tree S) = rw (header, le-leb (length area / wordSize) (length scratch) room, e, f (sound tree S)) refl
-    count-judged room answer after e f (unsound none) = rw (header, le-leb (length area / wordSize) (length scratch) room, e, f (unsound none)) refl
+    count-judged room answer after e f (sound tree S) = rw (e, f (sound tree S)) (sym (survey-sound area scratch _ _ header room tree S (sound tree S)))
+    count-judged room answer after e f (unsound none) = rw (e, f (unsound none)) (sym (survey-damaged area scratch _ _ header room none (unsound none)))
 
 -- ---- check, from the count
 abbrev told : Listing → Outcome
@@ -202,11 +198,11 @@ module _ (area scratch after : List ℕ) (r : Listed) (counts : (judged : Judged
             (C .header, omega (arith, C .room, size))
         by (unsound none) = absurd (none-counted area scratch after n none (tells (unsound none)))
 
-    pub list-short : length list < n → (judged : Judged area) → lists (refuse Refusal.ShortBuffer) after list ≡ listSteps area scratch list judged
-    list-short h (sound tree S) =
+    pub list-unlisted : length list < n → (judged : Judged area) → lists (refuse Refusal.ShortBuffer) after list ≡ listSteps area scratch list judged
+    list-unlisted h (sound tree S) =
         let C = tree-counted area scratch after n tree S (tells (sound tree S)) in
         sym (rw (lt-leb (length (listed tree)) (length list) (omega (arith, h, C .many))) refl) ∙ again (Listed.Entries n) e (sound tree S)
-    list-short h (unsound none) = absurd (none-counted area scratch after n none (tells (unsound none)))
+    list-unlisted h (unsound none) = absurd (none-counted area scratch after n none (tells (unsound none)))
 
     pub list-listed : n ≤ length list → (s : Listed) (last noted : List ℕ) → last ≡ blank after → ((judged : Judged area) → listedAnswer s ≡ judgedAnswer judged)
         → ((tree : Tree) → Sound area (usedOf area) tree → noted ≡ put list 0 (listed tree)) → (judged : Judged area) → lists (listedAnswer s) last noted ≡ listSteps area scratch list judged

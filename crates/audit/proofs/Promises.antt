@@ -1,41 +1,68 @@
--- What check and listing promise: every area is judged, one way; check accepts exactly the sound ones; no second outcome.
--- Each is a law of CheckLaws.antt or Telling.antt, where `ListTells` stands, too. Assumes nothing.
-use Prim.Native.Nat.{ℕ, _-_, _*_, _≤_}
+-- What check and listing promise: every area is judged, one way; what each test refuses, and their order; check accepts exactly the sound ones; no second outcome.
+-- Each is a law of SurveyLaws.antt, CheckLaws.antt or Telling.antt, where `ListTells` stands, too. Assumes nothing.
+use Prim.Native.Nat.{ℕ, _-_, _*_, _≤_, _<_}
 use mathlib.Core.Path.{_≡_}
-use mathlib.Core.Bool.{true}
+use mathlib.Core.Bool.{true, false}
 use mathlib.Core.List.{List}
 use lib.ListN.{length}
 use Rattle.words.specs.Words.{put}
 use Rattle.layout.specs.declared.refusal.Refusal.{Refusal}
 use Rattle.layout.specs.declared.refusal.Verdict.{Verdict}
 use Rattle.layout.specs.Layout.{areaMax, firstFree}
-use Rattle.layout.specs.Refusals.{accepted, acceptLeaving, refuseLeaving}
+use Rattle.layout.specs.Refusals.{accepted, refuse, acceptLeaving, refuseLeaving}
 use Rattle.layout.proofs.Promises.{one-outcome}
 use Rattle.trie.specs.Header.{headerOk}
 use Rattle.sound.specs.Tree.{Tree, listed}
 use Rattle.sound.specs.Sound.{Sound}
 use Rattle.audit.specs.Check.{usedOf, Judged, blank, scratchMin, checkSteps, CheckSays, lists, listSteps, ListSays}
 use Rattle.audit.specs.declared.checking.Listed.{Listed}
+use Rattle.audit.proofs.SurveyLaws.{survey-header, survey-scratch, survey-damaged, survey-sound, survey-short, survey-lists}
 use Rattle.audit.proofs.CheckLaws.{judge}
-use Rattle.audit.proofs.Telling.{sound-checks, unsound-checks, sound-lists, one-listing, entries-few, ListTells, listing-tells, listing-few, accepted-sound}
+use Rattle.audit.proofs.Telling.{one-listing, entries-few, ListTells, listing-tells, listing-few, accepted-sound}
 
 -- ---- every area is sound or not, and the walk finds out which
 pub every-judged : (area : List ℕ) → Judged area
 every-judged = judge
 
-module _ (area scratch : List ℕ) (header : headerOk area ≡ true) (room : scratchMin area ≤ length scratch) where
-  -- ---- a sound area is accepted, scratch ends zero
-  pub check-accepts : (tree : Tree) → Sound area (usedOf area) tree → (judged : Judged area) → checkSteps area scratch judged ≡ acceptLeaving (blank scratch)
-  check-accepts = sound-checks area scratch header room
+-- ---- what each test refuses, however the area is judged; a law's premises are what the tests before it found, and so their order
+module _ (area scratch : List ℕ) where
+  -- 8 first: no byte changes
+  pub check-header : headerOk area ≡ false → (judged : Judged area) → checkSteps area scratch judged ≡ refuseLeaving scratch Refusal.BadHeader
+  check-header = survey-header area scratch _ _
 
-  -- ---- any other is 5, scratch ends zero
-  pub check-refuses : ((tree : Tree) → Sound area (usedOf area) tree → ⊥) → (judged : Judged area) → checkSteps area scratch judged ≡ refuseLeaving (blank scratch) Refusal.Damaged
-  check-refuses = unsound-checks area scratch header room
+  pub list-header : (list : List ℕ) → headerOk area ≡ false → (judged : Judged area) → listSteps area scratch list judged ≡ lists (refuse Refusal.BadHeader) scratch list
+  list-header list = survey-header area scratch _ _
 
-  -- ---- a sound area is listed, if the list has the places: the offsets of its tree's entries, in the tree's order; list places beyond them stay
-  pub list-accepts : (list : List ℕ) (tree : Tree) → Sound area (usedOf area) tree → length (listed tree) ≤ length list
-      → (judged : Judged area) → listSteps area scratch list judged ≡ lists (accepted (length (listed tree))) (blank scratch) (put list 0 (listed tree))
-  list-accepts = sound-lists area scratch header room
+  module _ (header : headerOk area ≡ true) where
+    -- scratch next (10): no byte changes
+    pub check-scratch : length scratch < scratchMin area → (judged : Judged area) → checkSteps area scratch judged ≡ refuseLeaving scratch Refusal.ShortBuffer
+    check-scratch = survey-scratch area scratch _ _ header
+
+    pub list-scratch : (list : List ℕ) → length scratch < scratchMin area → (judged : Judged area) → listSteps area scratch list judged ≡ lists (refuse Refusal.ShortBuffer) scratch list
+    list-scratch list = survey-scratch area scratch _ _ header
+
+    module _ (room : scratchMin area ≤ length scratch) where
+      -- then an area that is not sound (5): scratch ends zero, the list is kept
+      pub check-refuses : ((tree : Tree) → Sound area (usedOf area) tree → ⊥) → (judged : Judged area) → checkSteps area scratch judged ≡ refuseLeaving (blank scratch) Refusal.Damaged
+      check-refuses = survey-damaged area scratch _ _ header room
+
+      pub list-damaged : (list : List ℕ) → ((tree : Tree) → Sound area (usedOf area) tree → ⊥)
+          → (judged : Judged area) → listSteps area scratch list judged ≡ lists (refuse Refusal.Damaged) (blank scratch) list
+      list-damaged list = survey-damaged area scratch _ _ header room
+
+      -- then a list with fewer places than the tree has entries (10): scratch ends zero, the list is kept
+      pub list-short : (list : List ℕ) (tree : Tree) → Sound area (usedOf area) tree → length list < length (listed tree)
+          → (judged : Judged area) → listSteps area scratch list judged ≡ lists (refuse Refusal.ShortBuffer) (blank scratch) list
+      list-short = survey-short area scratch header room
+
+      -- ---- a sound area is accepted, scratch ends zero
+      pub check-accepts : (tree : Tree) → Sound area (usedOf area) tree → (judged : Judged area) → checkSteps area scratch judged ≡ acceptLeaving (blank scratch)
+      check-accepts = survey-sound area scratch _ _ header room
+
+      -- ---- a sound area is listed, if the list has the places: the offsets of its tree's entries, in the tree's order; list places beyond them stay
+      pub list-accepts : (list : List ℕ) (tree : Tree) → Sound area (usedOf area) tree → length (listed tree) ≤ length list
+          → (judged : Judged area) → listSteps area scratch list judged ≡ lists (accepted (length (listed tree))) (blank scratch) (put list 0 (listed tree))
+      list-accepts = survey-lists area scratch header room
 
 -- ---- no second outcome
 pub one-check : (area scratch : List ℕ) (v w : Verdict) (a b : List ℕ) → CheckSays area scratch v a → CheckSays area scratch w b → (v ≡ w) × (a ≡ b)
@@ -53,8 +80,8 @@ pub list-tells : (area scratch list : List ℕ) (n : ℕ) (a c : List ℕ) (judg
     → ListTells area scratch list n a c
 list-tells = listing-tells
 
--- ---- how many entries there can be
-pub listed-few : (area : List ℕ) (used : ℕ) (tree : Tree) → Sound area used tree → 24 * length (listed tree) ≤ used - firstFree
+-- ---- how many entries there can be: one takes at least 100 bytes, and its node 24
+pub listed-few : (area : List ℕ) (used : ℕ) (tree : Tree) → Sound area used tree → 124 * length (listed tree) ≤ used - firstFree
 listed-few = entries-few
 
 -- ---- so the answer of listing fits 32 bits

@@ -1,51 +1,28 @@
--- What a judgement of an area makes check and listing say, and what they tell of the area, by the cases of the judgement and of the tests before it.
+-- What check and listing tell of an area, by the cases of its judgement and of the tests before it.
 -- Assumes nothing.
-use Prim.Native.Nat.{ℕ, _-_, _*_, _≤_}
+use Prim.Native.Nat.{ℕ, _+_, _-_, _*_, _≤_}
 use native.Mathlib.Omega.{arith}
-use mathlib.Core.Path.{_≡_, refl, sym, ap, _∙_}
-use mathlib.Core.Bool.{true}
+use mathlib.Core.Path.{_≡_, sym, ap, _∙_}
 use mathlib.Core.List.{List, _++_}
 use lib.ListN.{length, length-append}
 use lib.Dec.{leb}
-use borrow.Author.Tests.{le-leb, leb-true}
+use borrow.Author.Tests.{leb-true}
 use Rattle.words.proofs.Laws.{bool-cases, clash}
 use Rattle.words.specs.Words.{put}
 use Rattle.layout.specs.declared.refusal.Refusal.{Refusal}
 use Rattle.layout.specs.declared.refusal.Verdict.{Verdict}
 use Rattle.layout.specs.Layout.{areaMax, firstFree}
-use Rattle.layout.specs.Refusals.{accepted, refused, numberOf, noRefusal, acceptLeaving, refuseLeaving}
-use Rattle.layout.proofs.Numbers.{number-some}
+use Rattle.layout.specs.Refusals.{accepted, refused, acceptLeaving}
+use Rattle.layout.proofs.Numbers.{outcome-clash}
 use Rattle.layout.proofs.Promises.{one-refusal}
 use Rattle.trie.specs.Header.{headerOk}
 use Rattle.trie.proofs.HeaderLaws.{header-max}
 use Rattle.sound.specs.Tree.{Entry, bare, entry, Tree, leaf, node, listedOwn, listed}
 use Rattle.sound.specs.Sound.{Sound}
-use Rattle.sound.specs.Ways.{nodes}
-use Rattle.sound.proofs.Counting.{nodes-few}
-use Rattle.sound.proofs.Promises.{one-tree}
+use Rattle.sound.proofs.Counting.{entryTaken, taken, taken-few}
 use Rattle.audit.specs.Check.{usedOf, Judged, sound, unsound, blank, scratchMin, surveySteps, checkSteps, CheckSays, lists, listedAnswer, listSteps, ListSays}
 use Rattle.audit.specs.declared.checking.Listed.{Listed}
 use Rattle.audit.proofs.CheckLaws.{judge}
-
--- ---- with an area's header and scratch enough
-module _ (area scratch : List ℕ) (header : headerOk area ≡ true) (room : scratchMin area ≤ length scratch) where
-  pub sound-checks : (tree : Tree) → Sound area (usedOf area) tree → (judged : Judged area) → checkSteps area scratch judged ≡ acceptLeaving (blank scratch)
-  unfolding surveySteps
-  sound-checks tree S (sound other T) = rw (header, le-leb (scratchMin area) (length scratch) room) refl
-  sound-checks tree S (unsound none) = absurd (none tree S)
-
-  pub unsound-checks : ((tree : Tree) → Sound area (usedOf area) tree → ⊥) → (judged : Judged area) → checkSteps area scratch judged ≡ refuseLeaving (blank scratch) Refusal.Damaged
-  unfolding surveySteps
-  unsound-checks none (sound tree S) = absurd (none tree S)
-  unsound-checks none (unsound other) = rw (header, le-leb (scratchMin area) (length scratch) room) refl
-
-  pub sound-lists : (list : List ℕ) (tree : Tree) → Sound area (usedOf area) tree → length (listed tree) ≤ length list
-      → (judged : Judged area) → listSteps area scratch list judged ≡ lists (accepted (length (listed tree))) (blank scratch) (put list 0 (listed tree))
-  unfolding surveySteps
-  sound-lists list tree S long (sound other T) =
-      let e : other ≡ tree = one-tree area (usedOf area) other tree T S in
-      rw (header, le-leb (scratchMin area) (length scratch) room, e, le-leb (length (listed tree)) (length list) long) refl
-  sound-lists list tree S long (unsound none) = absurd (none tree S)
 
 -- ---- two listings of the same say the same
 one-listed : (r s : Listed) → listedAnswer r ≡ listedAnswer s → r ≡ s
@@ -59,29 +36,29 @@ one-listing area scratch list r s a b c d p q =
     let e : lists (listedAnswer r) a c ≡ lists (listedAnswer s) b d = p (judge area) ∙ sym (q (judge area)) in
     (one-listed r s (cc), (cc), (cc))
 
--- ---- an entry needs a node of its own, so there are few
-own-few : (own : Entry) → length (listedOwn own) ≤ 1
+-- ---- an entry takes at least 100 bytes, and the node that it needs takes 24, so there are few
+own-takes : (own : Entry) → 124 * length (listedOwn own) ≤ 24 + entryTaken own
 unfolding listedOwn
-own-few bare = omega arith
-own-few (entry at serial name value) = omega arith
+own-takes bare = omega arith
+own-takes (entry at serial name value) = omega arith
 
-listed-nodes : (tree : Tree) → length (listed tree) ≤ nodes tree
-unfolding listed nodes
-listed-nodes leaf = omega arith
-listed-nodes (node at name own left below right) =
+listed-takes : (tree : Tree) → 124 * length (listed tree) ≤ taken tree
+unfolding listed taken
+listed-takes leaf = omega arith
+listed-takes (node at name own left below right) =
     omega (
       arith,
       length-append (listed left ++ listedOwn own ++ listed below) (listed right),
       length-append (listed left ++ listedOwn own) (listed below),
       length-append (listed left) (listedOwn own),
-      own-few own,
-      listed-nodes left,
-      listed-nodes below,
-      listed-nodes right,
+      own-takes own,
+      listed-takes left,
+      listed-takes below,
+      listed-takes right,
     )
 
-pub entries-few : (area : List ℕ) (used : ℕ) (tree : Tree) → Sound area used tree → 24 * length (listed tree) ≤ used - firstFree
-entries-few area used tree S = omega (arith, listed-nodes tree, nodes-few area used tree S)
+pub entries-few : (area : List ℕ) (used : ℕ) (tree : Tree) → Sound area used tree → 124 * length (listed tree) ≤ used - firstFree
+entries-few area used tree S = omega (arith, listed-takes tree, taken-few area used tree S)
 
 -- ---- what a listing that is not refused says: the area is sound, and these are its tree's entries
 pub record ListTells (area scratch list : List ℕ) (n : ℕ) (a c : List ℕ) : Type 0 where
@@ -127,12 +104,9 @@ pub accepted-sound : (area scratch after : List ℕ) → CheckSays area scratch 
 unfolding surveySteps
 accepted-sound area scratch after says = by (judge area) (says (judge area))
   where
-    refuses : (why : Refusal) (x : List ℕ) → acceptLeaving after ≡ refuseLeaving x why → (tree : Tree) × Sound area (usedOf area) tree
-    refuses why x q = let z : noRefusal ≡ numberOf why = cc in absurd (number-some why (sym z))
-
     by : (judged : Judged area) → acceptLeaving after ≡ checkSteps area scratch judged → (tree : Tree) × Sound area (usedOf area) tree
     by (sound tree S) q = (tree, S)
     by (unsound none) q =
         bool-cases (headerOk area)
-        (λ h. bool-cases (leb (scratchMin area) (length scratch)) (λ k. refuses Refusal.Damaged _ (rw (h, k) at q)) (λ k. refuses Refusal.ShortBuffer _ (rw (h, k) at q)))
-        (λ h. refuses Refusal.BadHeader _ (rw h at q))
+        (λ h. bool-cases (leb (scratchMin area) (length scratch)) (λ k. outcome-clash after (blank scratch) Refusal.Damaged (rw (h, k) at q)) (λ k. outcome-clash after scratch Refusal.ShortBuffer (rw (h, k) at q)))
+        (λ h. outcome-clash after scratch Refusal.BadHeader (rw h at q))

@@ -1,26 +1,28 @@
--- Which bytes a refused allocation and a refused add leave.
+-- Which bytes a refused allocation and a refused add leave; and what an add or a format that answers 0 has done.
 use mathlib.Core.Path.{_≡_, refl, sym, _∙_}
-use mathlib.Core.Bool.{Bool, true, false, _||_}
+use mathlib.Core.Bool.{Bool, true, false, _||_, _&&_}
 use mathlib.Core.List.{List, [], _∷_}
 use Prim.Native.Nat.{ℕ, zero, suc, _+_, _-_}
-use lib.Dec.{eqb, ltb}
+use lib.Dec.{eqb, leb, ltb}
 use lib.ListN.{length}
 use Rattle.words.specs.Stores.{Store, run, textStores}
 use Rattle.words.proofs.Laws.{bool-cases, clash}
 use Rattle.names.specs.Names.{segments}
 use Rattle.layout.specs.declared.refusal.Refusal.{Refusal}
 use Rattle.layout.specs.declared.refusal.Verdict.{Verdict}
-use Rattle.layout.specs.Layout.{wordMax, byteOf, usedField, nodeTakes, entryTakes, valueTakes, slotSize, rootAt, propField, childrenField, dataSize, headerWord, wordAt, nodeOk, entryOk}
-use Rattle.layout.specs.Refusals.{numberOf, byVerdict}
+use Rattle.layout.specs.Layout.{wordMax, areaMax, formatMin, byteOf, usedField, nodeTakes, entryTakes, valueTakes, slotSize, rootAt, propField, childrenField, dataSize, headerWord, wordAt, nodeOk, entryOk}
+use Rattle.layout.specs.Refusals.{numberOf, noRefusal, byVerdict, acceptLeaving, refuseLeaving}
+use Rattle.layout.proofs.Numbers.{outcome-clash}
 use Rattle.property_info.specs.Written.{shortStores, longStores}
 use Rattle.trie.specs.declared.trie.Visited.{Visited}
 use Rattle.trie.specs.declared.trie.Searched.{Searched}
 use Rattle.trie.specs.Header.{headerOk}
 use Rattle.trie.specs.Trie.{visitNode, byVisit, nodesMax, searchFrom}
-use Rattle.allocation.specs.Steps.{Step, goes, stops, stopBy, withRooms, andThen, linkTo}
+use Rattle.allocation.specs.Steps.{Step, goes, stops, stopBy, withRooms, andThen, linkTo, outcome}
 use Rattle.allocation.specs.Allocate.{allocate}
 use Rattle.nodes.specs.Nodes.{layNode, newNode, hangNode, orHang, addNode, addSegment, addPath}
 use Rattle.entries.specs.Entries.{layEntry, longEntry, newEntry, addEntry}
+use Rattle.builder.specs.Fresh.{fresh, formatSteps}
 use Rattle.builder.specs.Add.{nameVerdict, addSteps}
 
 -- ---- a refused allocation changes no byte and gives no room
@@ -142,6 +144,19 @@ add-entry-late area name value node =
     (λ z. rw (t, z) tt))
     (λ t. rw t refl)
 
+-- ---- what holds of every refusal that leaves the area as it is, and of every step that stops late alone, holds of add
+verdict-every : (area : List ℕ) (P : Step → Type 0) → ((why : Refusal) → P (stopBy area why)) → (v : Verdict) (on : Step) → P on → P (byVerdict v (stopBy area) on)
+verdict-every area P refuses Verdict.Accepted on k = k
+verdict-every area P refuses (Verdict.Refused why) on k = refuses why
+
+add-every : (area name value : List ℕ) (P : Step → Type 0) → ((why : Refusal) → P (stopBy area why)) → ((s : Step) → StopsLate s → P s) → P (addSteps area name value)
+unfolding addSteps
+add-every area name value P refuses lates =
+    bool-cases (headerOk area)
+    (λ h. rw h (verdict-every area P refuses (nameVerdict name) _ (lates _
+    (then-late (addPath area (segments name) rootAt) (λ node after. addEntry after name value node) (path-late (segments name) area rootAt) (λ node after. add-entry-late after name value node)))))
+    (λ h. rw h (refuses Refusal.BadHeader))
+
 -- ---- so a refusal that is not late leaves every byte, and gives no room
 abbrev pub EarlyKeeps : List ℕ → Step → Type 0
 EarlyKeeps area (goes at after rooms) = Unit {0}
@@ -151,14 +166,29 @@ late-keeps : (area : List ℕ) (s : Step) → StopsLate s → EarlyKeeps area s
 late-keeps area (goes at after rooms) k = tt
 late-keeps area (stops number after rooms) k = λ e. let q : _≡_ {A = Bool} true false = sym k ∙ e in clash cc
 
-verdict-keeps : (area : List ℕ) (v : Verdict) (on : Step) → StopsLate on → EarlyKeeps area (byVerdict v (stopBy area) on)
-verdict-keeps area Verdict.Accepted on k = late-keeps area on k
-verdict-keeps area (Verdict.Refused why) on k = λ e. (refl, refl)
-
 pub add-keeps : (area name value : List ℕ) → EarlyKeeps area (addSteps area name value)
-unfolding addSteps
-add-keeps area name value =
-    bool-cases (headerOk area)
-    (λ h. rw h (verdict-keeps area (nameVerdict name) _
-    (then-late (addPath area (segments name) rootAt) (λ node after. addEntry after name value node) (path-late (segments name) area rootAt) (λ node after. add-entry-late after name value node))))
-    (λ h. rw h (λ e. (refl, refl)))
+add-keeps area name value = add-every area name value (EarlyKeeps area) (λ why e. (refl, refl)) (late-keeps area)
+
+-- ---- and an add that answers 0 went on to its end: no refusal has 0
+abbrev WentOn : List ℕ → Step → Type 0
+WentOn after s = acceptLeaving after ≡ outcome s → (prop : ℕ) × (rooms : List ℕ) × (s ≡ goes prop after rooms)
+
+late-went : (after : List ℕ) (s : Step) → StopsLate s → WentOn after s
+late-went after (goes at area rooms) k = λ e. let p : after ≡ area = cc in (at, rooms, rw p refl)
+late-went after (stops number area rooms) k =
+    λ e.
+    let z : noRefusal ≡ number = cc in
+    let q : _≡_ {A = Bool} false true = rw (← z) at k in
+    clash cc
+
+pub add-tells : (area name value after : List ℕ) → WentOn after (addSteps area name value)
+add-tells area name value after =
+    add-every area name value (WentOn after) (λ why. outcome-clash after area why) (late-went after)
+
+-- ---- a format that answers 0 made a fresh area
+pub format-tells : (area after : List ℕ) → acceptLeaving after ≡ formatSteps area → after ≡ fresh (length area)
+unfolding formatSteps
+format-tells area after e =
+    bool-cases (leb formatMin (length area) && leb (length area) areaMax)
+    (λ t. let k : acceptLeaving after ≡ acceptLeaving (fresh (length area)) = rw t at e in cc)
+    (λ t. let k : acceptLeaving after ≡ refuseLeaving area Refusal.BadHeader = rw t at e in clash cc)

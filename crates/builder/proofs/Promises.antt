@@ -1,13 +1,14 @@
--- What building promises of any bytes: no second outcome, which bytes a refusal leaves, and how far the used mark moves.
+-- What building promises of any bytes: no second outcome, what 0 says, which bytes a refusal leaves, and how far the used mark moves.
 use mathlib.Core.Path.{_≡_}
 use mathlib.Core.List.{List}
 use Prim.Native.Nat.{ℕ}
+use lib.ListN.{length}
 use Rattle.layout.specs.declared.refusal.Verdict.{Verdict}
-use Rattle.layout.specs.Refusals.{verdictNumber, leaves}
+use Rattle.layout.specs.Refusals.{verdictNumber, leaves, acceptLeaving}
 use Rattle.layout.proofs.Promises.{one-outcome}
-use Rattle.allocation.specs.Steps.{outcome}
+use Rattle.allocation.specs.Steps.{goes, outcome}
 use Rattle.allocation.specs.Allocate.{allocate}
-use Rattle.builder.specs.Fresh.{formatSteps}
+use Rattle.builder.specs.Fresh.{fresh, formatSteps}
 use Rattle.builder.specs.Add.{addSteps}
 use Rattle.builder.proofs.Keeping.{StopKeeps, EarlyKeeps}
 use Rattle.builder.proofs.Keeping as keeping
@@ -22,6 +23,14 @@ one-format area v w a b p q = one-outcome (formatSteps area) v w a b p q
 pub one-add : (area name value : List ℕ) (v w : Verdict) (a b : List ℕ)
     → leaves (verdictNumber v) a ≡ outcome (addSteps area name value) → leaves (verdictNumber w) b ≡ outcome (addSteps area name value) → (v ≡ w) × (a ≡ b)
 one-add area name value v w a b p q = one-outcome (outcome (addSteps area name value)) v w a b p q
+
+-- ---- a format that answers 0 made a fresh area
+pub format-tells : (area after : List ℕ) → acceptLeaving after ≡ formatSteps area → after ≡ fresh (length area)
+format-tells = keeping.format-tells
+
+-- ---- an add that answers 0 is not refused: it went on to the name's entry
+pub add-tells : (area name value after : List ℕ) → acceptLeaving after ≡ outcome (addSteps area name value) → (prop : ℕ) × (rooms : List ℕ) × (addSteps area name value ≡ goes prop after rooms)
+add-tells = keeping.add-tells
 
 -- ---- a refused allocation changes no byte and gives no room
 pub allocate-keeps : (area : List ℕ) (room : ℕ) → StopKeeps area (allocate area room)

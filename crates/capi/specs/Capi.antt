@@ -1,10 +1,11 @@
--- The C structs that an answer becomes: refusal 0 and the result, or the refusal's number and zeros.
+-- The C structs that an answer becomes: refusal 0 and the result, or the refusal's number and zeros; and what the C functions of check and listing return.
 use Prim.Native.Nat.{ℕ, _-_}
+use mathlib.Core.Path.{_≡_}
 use mathlib.Core.List.{List}
-use Rattle.layout.specs.Refusals.{Answer, accepted, refused, noRefusal}
+use Rattle.layout.specs.Refusals.{Answer, accepted, refused, noRefusal, leaves}
 use Rattle.property_area.specs.Find.{Hit, hit}
 use Rattle.property_area.specs.Value.{Part, bytes}
-use Rattle.audit.specs.Check.{Listing, lists}
+use Rattle.audit.specs.Check.{Judged, checkSteps, Listing, lists, listSteps}
 use Rattle.capi.specs.declared.PaCount.{PaCount}
 use Rattle.capi.specs.declared.PaFound.{PaFound}
 use Rattle.capi.specs.declared.PaPart.{PaPart}
@@ -28,3 +29,10 @@ countStruct (refused number) = record { refusal = number; count = 0 }
 
 abbrev pub listingStruct : Listing → CountListing
 listingStruct (lists answer scratch list) = counts (countStruct answer) scratch list
+
+-- what check and listing return and leave, however the area is judged
+abbrev pub CheckReturns : (area scratch : List ℕ) → ℕ → List ℕ → Type 0
+CheckReturns area scratch number after = (judged : Judged area) → leaves number after ≡ checkSteps area scratch judged
+
+abbrev pub ListReturns : (area scratch list : List ℕ) → PaCount → List ℕ → List ℕ → Type 0
+ListReturns area scratch list count after noted = (judged : Judged area) → counts count after noted ≡ listingStruct (listSteps area scratch list judged)

@@ -8,9 +8,8 @@ ghost use Rattle.allocation.specs.Steps.{outcome};
 ghost use Rattle.builder.specs.Fresh.{formatSteps};
 ghost use Rattle.builder.specs.Add.{addSteps};
 ghost use Rattle.updates.specs.Update.{updateSteps, rawSteps};
-ghost use Rattle.audit.specs.Check.{Judged, checkSteps, listSteps};
 ghost use Rattle.counters.specs.Distance.{distance};
-ghost use Rattle.capi.specs.Capi.{foundStruct, partStruct, counts, listingStruct};
+ghost use Rattle.capi.specs.Capi.{foundStruct, partStruct, CheckReturns, ListReturns};
 use audit::Listed;
 use property_area::Found;
 use property_area::ValuePart;
@@ -111,14 +110,14 @@ pub extern "C" fn pa_backup_read(area: &[u8], buffer: &mut [u8]) -> u32
 
 #[no_mangle]
 pub extern "C" fn pa_check(area: &[u8], scratch: &mut [u8]) -> u32
-    ensures { λ r. ⌜ ((judged : Judged (now (area .entry))) → leaves r (now (scratch .exit)) ≡ checkSteps (now (area .entry)) (now (scratch .entry)) judged) ⌝ }
+    ensures { λ r. ⌜ CheckReturns (now (area .entry)) (now (scratch .entry)) r (now (scratch .exit)) ⌝ }
 {
     audit::check(area, scratch).number()
 }
 
 #[no_mangle]
 pub extern "C" fn pa_list(area: &[u8], scratch: &mut [u8], list: &mut [u32]) -> PaCount
-    ensures { λ r. ⌜ ((judged : Judged (now (area .entry))) → counts r (now (scratch .exit)) (now (list .exit)) ≡ listingStruct (listSteps (now (area .entry)) (now (scratch .entry)) (now (list .entry)) judged)) ⌝ }
+    ensures { λ r. ⌜ ListReturns (now (area .entry)) (now (scratch .entry)) (now (list .entry)) r (now (scratch .exit)) (now (list .exit)) ⌝ }
 {
     match audit::list(area, scratch, list) {
         Listed::Entries(count) => PaCount {

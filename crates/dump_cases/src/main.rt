@@ -1,5 +1,6 @@
 // The dump of each file of data/, under a line with its name: an empty file, one a byte short of a header, a sound area of more than 65,536 bytes, one of 65,536 bytes full of
-// energy pulses, a damaged one, a file that is not there, and an area with a long value, an empty one, and bytes that are escaped.
+// energy pulses, one with 526 entries, the most that a file can have, a damaged one, a file that is not there, a folder, which is opened and cannot be read, and an area with a
+// long value, an empty one, and bytes that are escaped.
 use libc::STDOUT_FILENO;
 
 fn print(text: &[u8]) {
@@ -18,7 +19,9 @@ fn main() {
     show(b"short.area");
     show(b"large.area");
     show(b"largest.area");
+    show(b"most.area");
     show(b"damaged.area");
     show(b"missing.area");
+    show(b".");
     show(b"values.area");
 }

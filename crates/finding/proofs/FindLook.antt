@@ -20,8 +20,9 @@ use Rattle.sound.specs.Tree.{Entry, bare, entry, Tree, leaf, node, link, entryL
 use Rattle.sound.specs.Sound.{TreeRule, Sound}
 use Rattle.sound.specs.Ways.{Dir, toLeft, toBelow, toRight, toward, reached, nodes}
 use Rattle.finding.specs.Look.{spot, compares, ownAnswer, byNode, look}
+use Rattle.finding.proofs.Measures.{compares-few}
 use Rattle.finding.proofs.NodeReads.{Standing, stands-whole, stands-left, stands-below, stands-right, node-touched, prop-word, children-word, own-room, OwnTouched, own-touched}
-use Rattle.finding.proofs.Searching.{endsAt, searchEnd, linkOffset, segment-siblings, compares-few}
+use Rattle.finding.proofs.Searching.{endsAt, searchEnd, linkOffset, segment-siblings}
 
 -- what a way reaches stands there too, below some prefix
 pub stands-reached : (way : List Dir) (area : List ℕ) (used : ℕ) (prefix : List ℕ) (tree : Tree) → Standing area used prefix tree

@@ -1,10 +1,12 @@
+pub mod Measures
 pub mod NodeReads
 pub mod Searching
 pub mod FindLook
 pub mod Spelling
 pub mod LookWays
-pub mod Costs
+pub mod Refusing
 pub mod ValueReads
-pub mod WalkCost
+pub mod Passing
+pub mod Scanning
 pub mod Found
 pub mod Promises

@@ -16,7 +16,8 @@ use Rattle.trie.specs.declared.trie.Visited.{Visited}
 use Rattle.trie.specs.declared.trie.Searched.{Searched}
 use Rattle.trie.specs.Trie.{follow, nodesMax, byVisit, searchFrom, childSteps, segmentSteps}
 use Rattle.sound.specs.Tree.{Tree, leaf, node, link}
-use Rattle.sound.specs.Ways.{Dir, toLeft, toBelow, toRight, toward, reached, nodes, linkField}
+use Rattle.sound.specs.Ways.{Dir, toLeft, toBelow, toRight, toward, reached, nodes}
+use Rattle.sound.specs.Links.{linkField}
 use Rattle.finding.specs.Look.{turn, spot, compares}
 use Rattle.finding.proofs.NodeReads.{Standing, stands-left, stands-right, node-lies, visit-node}
 
@@ -76,18 +77,3 @@ module _ (area : List ℕ) (used : ℕ) (prefix segment : List ℕ) where
       rw (ne-eqb (length segment) 0 some, touched, children)
       (child-link parent (link tree)
       ∙ search-siblings tree (nodesMax area) parent (parent + childrenField) 0 stands (omega (arith, stands .few, stands .high)))
-
--- ---- the nodes compared, and those below where it ends, are nodes of the tree
-pub compares-few : (segment : List ℕ) (tree : Tree) → compares segment tree + nodes (toward toBelow (reached tree (spot segment tree))) ≤ nodes tree
-unfolding nodes reached spot compares toward
-compares-few segment leaf = omega arith
-compares-few segment (node at name own left below right) = by (segmentOrder segment name) (compares-few segment left) (compares-few segment right)
-  where
-    by : (order : Order) → compares segment left + nodes (toward toBelow (reached left (spot segment left))) ≤ nodes left
-        → compares segment right + nodes (toward toBelow (reached right (spot segment right))) ≤ nodes right
-        → 1 + turn order 0 (compares segment left) (compares segment right)
-        + nodes (toward toBelow (reached (node at name own left below right) (turn order [] (toLeft ∷ spot segment left) (toRight ∷ spot segment right))))
-        ≤ 1 + nodes left + nodes below + nodes right
-    by Order.Equal l r = omega arith
-    by Order.Less l r = omega arith
-    by Order.Greater l r = omega arith

@@ -10,10 +10,9 @@ use Rattle.names.specs.declared.Order.{Order}
 use Rattle.names.specs.declared.Order.the-variants.{Less, Equal, Greater}
 use Rattle.layout.specs.declared.refusal.Refusal.{Refusal}
 use Rattle.layout.specs.Refusals.{Answer, accepted, refuse}
-use Rattle.trie.specs.declared.trie.Searched.{Searched}
-use Rattle.trie.specs.Trie.{segmentSteps}
+use Rattle.layout.specs.Layout.{nodeSize, namelenField, placeOf, wordAt}
 use Rattle.property_area.specs.Find.{Hit, hit}
-use Rattle.sound.specs.Tree.{Value, short, long, Entry, bare, entry, Tree, leaf, node}
+use Rattle.sound.specs.Tree.{Value, short, long, Entry, bare, entry, Tree, leaf, node, inside}
 use Rattle.sound.specs.Ways.{Dir, toLeft, toRight, reached}
 
 -- equal ends it, less goes left, greater right
@@ -50,23 +49,20 @@ look (segment ∷ rest) own below compared =
     (refuse Refusal.EmptySegment)
     (byNode (reached below (spot segment below)) (refuse Refusal.Missing) (λ next under. look rest next under (compared + compares segment below)))
 
--- the nodes compared for some segments, found or not
-unfoldable pub costs : List (List ℕ) → Tree → ℕ
-costs [] below = 0
-costs (segment ∷ rest) below =
-    cond (eqb (length segment) 0) 0 (compares segment below + byNode (reached below (spot segment below)) 0 (λ next under. costs rest under))
-
 -- what a value shows: a short one its slot up to the first zero, a long one its text
 unfoldable pub valueText : Value → List ℕ
 valueText (short slot) = upToZero slot
 valueText (long far text) = text
 
--- the nodes that find compares over the bytes, whatever it answers
-abbrev pub searchCost : Searched → (ℕ → ℕ) → ℕ
-searchCost (Searched.Named named compared) on = compared + on named
-searchCost (Searched.Absent link compared) on = compared
-searchCost (Searched.Refused why) on = 0
+-- ---- what a lookup scans: the names of the nodes that it compares (`walked`), each with its zero
+abbrev pub nameSize : List ℕ → ℕ → ℕ
+nameSize area at = wordAt area at namelenField + 1
 
-unfoldable pub walkCost : List ℕ → List (List ℕ) → ℕ → ℕ
-walkCost area [] parent = 0
-walkCost area (segment ∷ rest) parent = searchCost (segmentSteps area segment parent) (walkCost area rest)
+-- 1 at each byte of a node's name and its zero, 0 elsewhere
+abbrev pub nameCover : List ℕ → ℕ → ℕ → ℕ
+nameCover area i at = inside (placeOf at nodeSize) (nameSize area at) i
+
+-- over some nodes
+unfoldable pub summed : (ℕ → ℕ) → List ℕ → ℕ
+summed measure [] = 0
+summed measure (at ∷ rest) = measure at + summed measure rest

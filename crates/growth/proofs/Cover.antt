@@ -6,7 +6,8 @@ use mathlib.Core.List.{List, [], _∷_}
 use lib.ListN.{length}
 use Rattle.layout.specs.Layout.{wordSize, nodeSize, byteOf, placeOf, nodeTakes}
 use Rattle.sound.specs.Tree.{Entry, Tree, leaf, node, inside, entryCover, cover}
-use Rattle.sound.specs.Ways.{Dir, toLeft, toBelow, toRight, toward, reached, linkField}
+use Rattle.sound.specs.Ways.{Dir, toLeft, toBelow, toRight, toward, reached}
+use Rattle.sound.specs.Links.{linkField}
 use Rattle.sound.proofs.Inside.{inside-part}
 use Rattle.growth.specs.Plug.{hang, plug, linkPlace}
 

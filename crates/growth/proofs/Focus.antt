@@ -11,7 +11,8 @@ use Rattle.words.specs.Words.{littleAt}
 use Rattle.layout.specs.Layout.{wordSize, nodeSize, byteOf, placeOf, wordAt, nodeTakes}
 use Rattle.sound.specs.Tree.{Entry, Tree, leaf, node, link, inside, cover}
 use Rattle.sound.specs.Sound.{nodeWords, NodeAt, TreeAt}
-use Rattle.sound.specs.Ways.{Dir, toLeft, toBelow, toRight, toward, reached, linkField}
+use Rattle.sound.specs.Ways.{Dir, toLeft, toBelow, toRight, toward, reached}
+use Rattle.sound.specs.Links.{linkField}
 use Rattle.sound.proofs.Inside.{inside-yes, inside-low, inside-high, inside-below, inside-above}
 use Rattle.sound.proofs.Framing.{Keep, word-frame, text-frame, entry-frame, tree-frame}
 use Rattle.sound.proofs.OnePath.{reached-cover}

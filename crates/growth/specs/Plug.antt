@@ -3,7 +3,8 @@ use Prim.Native.Nat.{ℕ}
 use mathlib.Core.List.{List, [], _∷_}
 use Rattle.layout.specs.Layout.{placeOf}
 use Rattle.sound.specs.Tree.{Tree, leaf, node}
-use Rattle.sound.specs.Ways.{Dir, toLeft, toBelow, toRight, toward, linkField}
+use Rattle.sound.specs.Ways.{Dir, toLeft, toBelow, toRight, toward}
+use Rattle.sound.specs.Links.{linkField}
 
 -- the tree with another hung in a direction; of a leaf nothing stays
 unfoldable pub hang : Dir → Tree → Tree → Tree

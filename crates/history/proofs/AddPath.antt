@@ -5,18 +5,19 @@ use native.Mathlib.Omega.{arith}
 use native.Mathlib.Decide.{decLt}
 use mathlib.Core.Path.{_≡_, refl, sym, ap, _∙_}
 use mathlib.Core.List.{List, [], _∷_, _++_, append-nil, append-assoc}
-use lib.ListN.{length}
+use lib.ListN.{length, length-append}
 use Rattle.words.proofs.Laws.{clash}
 use Rattle.layout.specs.Layout.{dataSize, nodeTakes}
 use Rattle.allocation.specs.Steps.{goes, stops, total}
 use Rattle.nodes.specs.Nodes.{addPath}
 use Rattle.sound.specs.Tree.{Entry, Tree, leaf, node}
 use Rattle.sound.specs.Sound.{Sound}
-use Rattle.sound.specs.Ways.{Dir, toBelow, reached}
+use Rattle.sound.specs.Ways.{Dir, toBelow, reached, nodes}
 use Rattle.growth.proofs.Joining.{reached-append}
 use Rattle.finding.specs.Look.{spot, byNode}
 use Rattle.finding.proofs.Spelling.{namesTo}
-use Rattle.history.specs.Lack.{fullNumber, missing}
+use Rattle.history.specs.Lack.{missing}
+use Rattle.history.proofs.Rooms.{fullNumber}
 use Rattle.history.proofs.Stood.{Stood, atRoot, atNode, above, above-names}
 use Rattle.history.proofs.NodeHung.{NameRule, spotAt}
 use Rattle.history.proofs.Hung.{Hung, same, hung-then}
@@ -39,16 +40,20 @@ module _ (area : List ℕ) (used : ℕ) (tree : Tree) (v : List Dir) (parent : �
     pub size : length after ≡ length area
     pub sound : Sound after (used + total rooms) now
     pub hung : Hung tree now
+    pub count : nodes now ≡ nodes tree + length rooms
     pub stood : Stood now way at
     pub names : above now way ≡ above tree v ++ segs
 
-  -- the walk stopped at a node that wanted more room than there was
+  -- the walk stopped at a node that wanted more room than there was, with some segments left
   pub record Halted : Type 0 where
     pub number : ℕ
     pub after : List ℕ
     pub rooms : List ℕ
     pub now : Tree
     pub wanted : ℕ
+    pub at : ℕ
+    pub way : List Dir
+    pub left : List (List ℕ)
     pub is : addPath area segs parent ≡ stops number after rooms
     pub why : number ≡ fullNumber (used + total rooms + wanted)
     pub full : dataSize area < used + total rooms + wanted
@@ -56,10 +61,17 @@ module _ (area : List ℕ) (used : ℕ) (tree : Tree) (v : List Dir) (parent : �
     pub size : length after ≡ length area
     pub sound : Sound after (used + total rooms) now
     pub hung : Hung tree now
+    pub count : nodes now ≡ nodes tree + length rooms
+    pub stood : Stood now way at
+    pub names : above now way ++ left ≡ above tree v ++ segs
+    pub still : total rooms + missing left (reached now way) ≡ missing segs (reached tree v)
 
 -- ---- one segment, and the rest from there
 module _ (area : List ℕ) (used : ℕ) (tree : Tree) (v : List Dir) (parent : ℕ) (segment : List ℕ) (rest : List (List ℕ)) (taken : ℕ) (siblings : Tree)
     (f : Further area used tree v parent segment taken siblings) where
+  counted : (now : Tree) (rooms : List ℕ) → nodes now ≡ nodes (f .now) + length rooms → nodes now ≡ nodes tree + length (f .rooms ++ rooms)
+  counted now rooms e = omega (arith, e, f .count, length-append (f .rooms) rooms)
+
   went-then : taken + missing rest siblings ≡ missing (segment ∷ rest) (reached tree v)
       → Went (f .after) (used + taken) (f .now) (spotAt tree v segment ++ toBelow ∷ []) (f .at) rest → Went area used tree v parent (segment ∷ rest)
   unfolding addPath
@@ -77,6 +89,7 @@ module _ (area : List ℕ) (used : ℕ) (tree : Tree) (v : List Dir) (parent : �
         size = w .size ∙ f .size;
         sound = rw e (w .sound);
         hung = hung-then tree (f .now) (w .now) (f .hung) (w .hung);
+        count = counted (w .now) (w .rooms) (w .count);
         stood = w .stood;
         names = w .names ∙ ap (λ (t : List (List ℕ)). t ++ rest) (f .names) ∙ append-assoc (above tree v) (segment ∷ []) rest;
       }
@@ -91,6 +104,9 @@ module _ (area : List ℕ) (used : ℕ) (tree : Tree) (v : List Dir) (parent : �
         rooms = f .rooms ++ w .rooms;
         now = w .now;
         wanted = w .wanted;
+        at = w .at;
+        way = w .way;
+        left = w .left;
         is = rw (f .is, w .is);
         why = rw e (w .why);
         full = omega (arith, f .size, w .full);
@@ -98,6 +114,10 @@ module _ (area : List ℕ) (used : ℕ) (tree : Tree) (v : List Dir) (parent : �
         size = w .size ∙ f .size;
         sound = rw e (w .sound);
         hung = hung-then tree (f .now) (w .now) (f .hung) (w .hung);
+        count = counted (w .now) (w .rooms) (w .count);
+        stood = w .stood;
+        names = w .names ∙ ap (λ (t : List (List ℕ)). t ++ rest) (f .names) ∙ append-assoc (above tree v) (segment ∷ []) rest;
+        still = omega (arith, f .adds (w .rooms), w .still, ap (missing rest) (f .under));
       }
 
 -- ---- the first segment, where its node is there or has room
@@ -132,6 +152,7 @@ path-goes [] area used tree v parent sound stood named fits = record {
   size = refl;
   sound = rw (add-zero used) sound;
   hung = same tree;
+  count = omega arith;
   stood = stood;
   names = sym (append-nil (above tree v));
 }
@@ -165,6 +186,9 @@ path-halts (segment ∷ rest) area used tree v parent sound stood named full =
       rooms = [];
       now = tree;
       wanted = nodeTakes (length segment);
+      at = parent;
+      way = v;
+      left = segment ∷ rest;
       is = rw (segment-full area used tree v parent segment sound stood (named .0) e over);
       why = rw (add-zero used);
       full = omega arith;
@@ -172,6 +196,10 @@ path-halts (segment ∷ rest) area used tree v parent sound stood named full =
       size = refl;
       sound = rw (add-zero used) sound;
       hung = same tree;
+      count = omega arith;
+      stood = stood;
+      names = refl;
+      still = omega arith;
     }
     by leaf e (no fits) on = on (λ k. omega arith)
     by (node at name own left below right) e fits on = on (λ k. let q : node at name own left below right ≡ leaf = sym e ∙ k in clash cc)

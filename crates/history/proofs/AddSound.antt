@@ -4,14 +4,14 @@ use native.Mathlib.Omega.{arith}
 use native.Mathlib.Decide.{decLt}
 use mathlib.Core.Path.{_≡_, refl, sym, ap, _∙_}
 use mathlib.Core.Logic.{_≢_}
-use mathlib.Core.List.{List, [], _++_}
-use lib.ListN.{length}
+use mathlib.Core.List.{List, [], _∷_, _++_, append-nil}
+use lib.ListN.{length, length-append}
 use Rattle.words.specs.Words.{upToZero}
 use Rattle.finding.specs.Look.{valueText}
 use Rattle.names.specs.Names.{segments}
 use Rattle.layout.specs.declared.refusal.Refusal.{Refusal}
 use Rattle.layout.specs.declared.refusal.Verdict.{Verdict}
-use Rattle.layout.specs.Layout.{dataSize, rootAt, entryTakes}
+use Rattle.layout.specs.Layout.{slotSize, dataSize, rootAt, entryTakes}
 use Rattle.builder.proofs.Used.{total-append}
 use Rattle.allocation.specs.Steps.{Step, goes, stops, stopBy, andThen, withRooms, total}
 use Rattle.nodes.specs.Nodes.{addPath}
@@ -23,12 +23,15 @@ use Rattle.sound.specs.Ways.{reached}
 use Rattle.growth.specs.Plug.{plug}
 use Rattle.growth.proofs.Rules.{prefixAt}
 use Rattle.finding.proofs.Spelling.{one-name}
-use Rattle.history.specs.Lack.{seek, entryOf, missing, entryRooms, entryNeeds, ownLacks, lacks, fullNumber}
+use Rattle.history.specs.Lack.{seek, entryOf, missing, entryRooms, entryNeeds, ownLacks, lacks}
+use Rattle.history.specs.Stays.{Stays}
+use Rattle.history.proofs.Rooms.{fullNumber}
 use Rattle.history.proofs.Leading.{names-spelled, finds-own, finds-new, finds-others}
 use Rattle.history.proofs.Stood.{atRoot, above}
-use Rattle.history.proofs.Hung.{hung-seek}
+use Rattle.history.proofs.Hung.{hung-seek, hung-keeps}
+use Rattle.history.proofs.Missing.{missing-stood, missing-bare}
 use Rattle.history.proofs.AddPath.{Went, Halted, path-goes, path-halts, NodeThere, stood-node}
-use Rattle.history.proofs.EntryAdded.{EntryAdded, kept, added, noEntry, noValue, needs-least, laid-shows}
+use Rattle.history.proofs.EntryAdded.{EntryAdded, kept, added, noEntry, noValue, needs-least, needs-short, laid-shows}
 use Rattle.history.proofs.AddEntry.{add-entry}
 use Rattle.history.proofs.Naming.{all-named, segments-some}
 
@@ -41,7 +44,7 @@ pub data AddDone (area : List ℕ) (used : ℕ) (tree : Tree) (name value : List
   badName : (why : Refusal) → nameVerdict name ≡ Verdict.Refused why → step ≡ stopBy area why → AddDone area used tree name value step
   -- there is not room for all that is lacking
   noRoom : (wanted : ℕ) (b rooms : List ℕ) (grown : ℕ) (now : Tree) → nameVerdict name ≡ Verdict.Accepted → dataSize area < wanted → wanted ≤ used + lacks tree name value
-      → step ≡ stops (fullNumber wanted) b rooms → Sound b grown now → Alike tree now
+      → step ≡ stops (fullNumber wanted) b rooms → Sound b grown now → Alike tree now → Stays area used tree name value rooms now
       → AddDone area used tree name value step
   -- it has an entry already
   stays : (at : ℕ) (b rooms : List ℕ) (grown : ℕ) (now : Tree) (serial : ℕ) (v : Value) → nameVerdict name ≡ Verdict.Accepted → used + lacks tree name value ≤ dataSize area
@@ -70,11 +73,24 @@ module _ (area : List ℕ) (used : ℕ) (tree : Tree) (sound : Sound area used t
 
     -- the walk did not come to its end
     halted : Halted area used tree [] rootAt (segments name) → dataSize area < used + missing (segments name) tree → AddDone area used tree name value (addSteps area name value)
-    unfolding steps reached
+    unfolding steps reached above
     halted H full =
         noRoom (used + total (H .rooms) + H .wanted) (H .after) (H .rooms) (used + total (H .rooms)) (H .now) named (H .full) (omega (arith, H .within))
         (sym steps-are ∙ ap (λ (s : Step). andThen s (λ at after. addEntry after name value at)) (H .is) ∙ ap (λ (k : ℕ). stops k (H .after) (H .rooms)) (H .why))
-        (H .sound) (hung-seek tree (H .now) (H .hung))
+        (H .sound) same (record {
+          kept = hung-keeps tree (H .now) (H .hung);
+          entries = λ other. same (segments other) bare;
+          unlinked = same (segments name) bare ∙ missing-bare tree name (sound .rule) (omega (arith, sound .front .high, full));
+          linked = λ short. (omega (arith, H .still, left-over), H .count);
+          unwritten = λ fits. absurd (omega (arith, fits, full));
+        })
+      where
+        same : Alike tree (H .now)
+        same = hung-seek tree (H .now) (H .hung)
+
+        -- what is missing now is what was left of the path
+        left-over : missing (segments name) (H .now) ≡ missing (H .left) (reached (H .now) (H .way))
+        left-over = ap (λ (s : List (List ℕ)). missing s (H .now)) (sym (H .names)) ∙ missing-stood (H .now) (H .way) (H .at) (H .left) (H .sound .rule) (H .stood)
 
     -- it did: at a node with that name for its path
     module _ (W : Went area used tree [] rootAt (segments name)) (fits : used + missing (segments name) tree ≤ dataSize area) where
@@ -107,9 +123,24 @@ module _ (area : List ℕ) (used : ℕ) (tree : Tree) (sound : Sound area used t
       unfolding reached
       sized = W .given
 
+      -- no node is missing now
+      full-path : missing (segments name) (W .now) ≡ 0
+      unfolding above missing
+      full-path =
+          ap (λ (s : List (List ℕ)). missing s (W .now)) (sym (append-nil (above (W .now) (W .way)) ∙ W .names))
+          ∙ missing-stood (W .now) (W .way) (W .at) [] (W .sound .rule) (W .stood)
+
       sums : total (W .rooms) + total (entryRooms name value) ≡ missing (segments name) tree + entryNeeds name value
       unfolding entryNeeds
       sums = ap (λ (k : ℕ). k + total (entryRooms name value)) sized
+
+      -- the entry fits, and what it needs does not: its value is long
+      long-value : used + total (W .rooms) + entryTakes (length name) ≤ dataSize (W .after) → dataSize (W .after) < used + total (W .rooms) + entryNeeds name value → slotSize ≤ length value
+      long-value room over = on (decLt (length value) slotSize)
+        where
+          on : Dec (length value < slotSize) → slotSize ≤ length value
+          on (yes few) = absurd (omega (arith, room, over, needs-short name value few))
+          on (no many) = omega arith
 
       by : EntryAdded (W .after) (used + total (W .rooms)) (W .now) (there .way) (W .at) (there .name) (there .own) (there .left) (there .below) (there .right) name value
           (addEntry (W .after) name value (W .at)) → AddDone area used tree name value (addSteps area name value)
@@ -131,8 +162,27 @@ module _ (area : List ℕ) (used : ℕ) (tree : Tree) (sound : Sound area used t
       by (noEntry own over is) =
           noRoom (used + total (W .rooms) + entryTakes (length name)) (W .after) _ (used + total (W .rooms)) (W .now) named (omega (arith, over, size))
           (omega (arith, sized, lacks-bare tree name value (has ∙ own), needs-least name value)) (onEntry _ is) (W .sound) same
+          (record {
+            kept = hung-keeps tree (W .now) (W .hung);
+            entries = λ other. same (segments other) bare;
+            unlinked = same (segments name) bare ∙ has ∙ own;
+            linked = λ short. (omega (arith, total-append (W .rooms) [], sized, full-path), omega (arith, W .count, length-append (W .rooms) []));
+            unwritten = λ room. absurd (omega (arith, room, over, size, sized));
+          })
       by (noValue b own room over is S) =
           noRoom (used + total (W .rooms) + entryNeeds name value) b _ _ (W .now) named (omega (arith, over, size)) (omega (arith, sized, lacks-bare tree name value (has ∙ own))) (onEntry _ is) S same
+          (record {
+            kept = hung-keeps tree (W .now) (W .hung);
+            entries = λ other. same (segments other) bare;
+            unlinked = same (segments name) bare ∙ has ∙ own;
+            linked = λ short. absurd (omega (arith, short, room, size, sized));
+            unwritten = λ fit. (
+              long-value room over,
+              full-path,
+              omega (arith, total-append (W .rooms) (entryTakes (length name) ∷ []), sized),
+              omega (arith, W .count, length-append (W .rooms) (entryTakes (length name) ∷ [])),
+            );
+          })
 
       went : AddDone area used tree name value (addSteps area name value)
       went = by (add-entry (W .after) (used + total (W .rooms)) (W .now) (there .way) (W .at) (there .name) (there .own) (there .left) (there .below) (there .right) (there .there) (W .sound) name value whole)

@@ -14,7 +14,8 @@ use Rattle.sound.specs.Tree.{Value, short, long, Entry, bare, entry, Tree, node
 use Rattle.sound.specs.Sound.{Sound}
 use Rattle.sound.specs.Ways.{Dir}
 use Rattle.growth.specs.Plug.{plug}
-use Rattle.history.specs.Lack.{entryNeeds, entryRooms, fullNumber}
+use Rattle.history.specs.Lack.{entryNeeds, entryRooms}
+use Rattle.history.proofs.Rooms.{fullNumber}
 
 -- the serial and value of an entry just laid: it shows the value up to its first zero
 unfoldable pub Laid : ℕ → List ℕ → List ℕ → ℕ → Value → Type 0

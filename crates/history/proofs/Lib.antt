@@ -13,6 +13,7 @@ pub mod Stood
 pub mod NodeHung
 pub mod Hung
 pub mod Segment
+pub mod Missing
 pub mod AddPath
 pub mod EntryHung
 pub mod EntryAdded
@@ -27,4 +28,7 @@ pub mod Entries
 pub mod Run
 pub mod OneCall
 pub mod Telling
+pub mod Adding
+pub mod Backing
+pub mod Answering
 pub mod Promises

@@ -27,9 +27,10 @@ use Rattle.sound.specs.Sound.{Sound}
 use Rattle.growth.specs.Plug.{plug}
 use Rattle.finding.proofs.Promises.{find-refusals}
 use Rattle.history.specs.History.{Op, add, update, call, opName, hear, heeded, sizeIn, roomsIn, opRooms}
-use Rattle.history.specs.Lack.{seek, entryOf, fullNumber}
-use Rattle.history.proofs.Rooms.{full-number}
-use Rattle.history.proofs.Undamaged.{Undamaged, Mild, undamaged, not-accepted, room-mild, found-mild}
+use Rattle.history.specs.Lack.{seek, entryOf}
+use Rattle.history.specs.Calls.{Undamaged}
+use Rattle.history.proofs.Rooms.{fullNumber, full-number}
+use Rattle.history.proofs.Undamaged.{Mild, undamaged, not-accepted, room-mild, found-mild}
 use Rattle.history.proofs.Leading.{finds-own, finds-new, finds-others}
 use Rattle.history.proofs.Naming.{verdict-refused}
 use Rattle.history.proofs.AddSound.{AddDone, badName, noRoom, stays, adds, add-sound}
@@ -107,7 +108,7 @@ module _ (area : List ℕ) (used : ℕ) (tree : Tree) (op : Op) (b : List ℕ) (
 -- ---- an add
 module _ (area : List ℕ) (used : ℕ) (tree : Tree) (sound : Sound area used tree) (name value : List ℕ) where
   -- the used mark, by the rooms given
-  moved : (step : Step) → addSteps area name value ≡ step → (b : List ℕ) (grown : ℕ) (now : Tree) → bytesIn (outcome step) ≡ b → Sound b grown now → grown ≡ used + total (roomsIn step)
+  pub moved : (step : Step) → addSteps area name value ≡ step → (b : List ℕ) (grown : ℕ) (now : Tree) → bytesIn (outcome step) ≡ b → Sound b grown now → grown ≡ used + total (roomsIn step)
   moved (goes at after rooms) e b grown now h S =
       let m : Moves area after rooms = subst (λ (s : Step). Moved area s) e (used-moves area name value) in
       sym (S .front .mark) ∙ ap (λ (x : List ℕ). headerWord x usedField) (sym h) ∙ m .used ∙ ap (λ (k : ℕ). k + total rooms) (sound .front .mark)
@@ -137,7 +138,7 @@ module _ (area : List ℕ) (used : ℕ) (tree : Tree) (sound : Sound area used t
   by-add (badName why e is) =
       let v = verdict-refused name why e in
       next-refused area used tree (add name value) (numberOf why) area (is-of _ is) used tree sound (marked _ is area used tree refl sound) (why, refl, v .0, v .1) (λ n. refl)
-  by-add (noRoom wanted b rooms grown now e over within is S same) =
+  by-add (noRoom wanted b rooms grown now e over within is S same left) =
       next-refused area used tree (add name value) (fullNumber wanted) b (is-of _ is) grown now S (marked _ is b grown now refl S)
       (room-mild (fullNumber wanted) (full-number wanted)) (λ n. same (segments n) bare)
   by-add (stays at b rooms grown now serial v e fits is sum has S same) =

@@ -41,7 +41,7 @@ plug-own (toRight ∷ way) (node at name own left below right) = rw (plug-own wa
 
 module _ (at : ℕ) (name : List ℕ) (own : Entry) (left below right : Tree) where
   -- ---- on a side, the first name along a way to a node is ordered as the side is
-  side-first : (way : List Dir) (order : Order) (full : List ℕ) (tree : Tree) → Side order full tree → reached tree way ≡ node at name own left below right
+  pub side-first : (way : List Dir) (order : Order) (full : List ℕ) (tree : Tree) → Side order full tree → reached tree way ≡ node at name own left below right
       → (segment : List ℕ) × (rest : List (List ℕ)) × (namesTo tree way ≡ segment ∷ rest) × (segmentOrder segment full ≡ order)
   unfolding reached toward namesTo Side
   side-first [] order full leaf side is = clash cc

@@ -1,20 +1,21 @@
 -- What the history promises: of a fresh area, of one add or update over a sound one, and of any run of them, refused ones included, from any sound area
--- on and so from a fresh one (demand 3). The proofs stand in FreshSound, OneCall, Next, Run and Telling.
+-- on and so from a fresh one (demand 3). The proofs stand in FreshSound, OneCall, Run, Telling, Adding and Answering.
 use Prim.Native.Nat.{ℕ, _+_, _-_, _/_, _≤_, _<_}
 use native.Mathlib.Omega.{arith}
 use mathlib.Core.Path.{_≡_, refl, subst, _∙_}
-use mathlib.Core.Bool.{false}
+use mathlib.Core.Bool.{true, false}
 use mathlib.Core.Logic.{_≢_, _⊎_}
-use mathlib.Core.List.{List}
+use mathlib.Core.List.{List, [], _∷_, _++_}
 use mathlib.Core.Option.{Option, none, some}
-use lib.ListN.{length}
+use lib.ListN.{length, getD}
 use Rattle.words.specs.Words.{put}
 use Rattle.names.specs.Names.{segments}
 use Rattle.layout.specs.declared.refusal.Refusal.{Refusal}
 use Rattle.layout.specs.declared.refusal.Verdict.{Verdict}
-use Rattle.layout.specs.Layout.{wordMax, areaMax, rootAt, serialField, slotSize, firstFree, formatMin, dataSize, wordAt, headerWord, usedField}
+use Rattle.layout.specs.Layout.{wordMax, areaMax, serialField, slotSize, backupAt, firstFree, formatMin, dataSize, byteOf, wordAt, headerWord, usedField}
 use Rattle.layout.specs.Refusals.{accepted, refused, refuse, numberOf, noRefusal, acceptLeaving, numberIn, bytesIn}
 use Rattle.property_area.specs.Find.{hit, findSteps}
+use Rattle.property_area.specs.Walked.{walked}
 use Rattle.property_area.specs.Lookup.{shown}
 use Rattle.serials.specs.Serial.{positions}
 use Rattle.counters.specs.Distance.{distance}
@@ -23,20 +24,25 @@ use Rattle.builder.specs.Fresh.{fresh}
 use Rattle.builder.specs.Add.{anyEmpty, nameVerdict}
 use Rattle.sound.specs.Tree.{short, bare, entry, Tree, leaf, listed}
 use Rattle.sound.specs.Sound.{Has, Sound}
-use Rattle.finding.specs.Look.{walkCost, look}
-use Rattle.finding.proofs.Promises.{find-cost, walk-bound}
-use Rattle.audit.specs.Check.{Judged, blank, scratchMin, checkSteps, lists, listSteps}
+use Rattle.finding.specs.Look.{look, nameSize, summed}
+use Rattle.finding.proofs.Promises.{walk-bound, find-count, walk-scans}
+use Rattle.sound.proofs.Promises.{room-says}
+use Rattle.audit.specs.Check.{usedOf, Judged, blank, scratchMin, checkSteps, lists, listSteps}
 use Rattle.audit.proofs.Promises.{check-accepts, list-accepts}
-use Rattle.history.specs.History.{Op, add, update, call, opName, after, told, toldBy, AsTold, updateSizes, opRooms, given}
+use Rattle.history.specs.History.{Op, add, update, call, opName, after, told, toldBy, AsTold, added, updateSizes, opRooms, given}
 use Rattle.history.specs.Lack.{entryOf, lacks}
+use Rattle.history.specs.Stays.{Stays}
+use Rattle.history.specs.Calls.{Answers, Undamaged}
+use Rattle.history.specs.Demand.{Demand}
 use Rattle.history.proofs.FreshSound as freshSound
 use Rattle.history.proofs.OneCall as oneCall
 use Rattle.history.proofs.Showing.{shown-which}
-use Rattle.history.proofs.Undamaged.{Undamaged}
-use Rattle.history.proofs.Next.{next}
 use Rattle.history.proofs.Run.{ran, matched-shows}
 use Rattle.history.proofs.Telling as telling
 use telling.{by-mark, told-matches}
+use Rattle.history.proofs.Adding as adding
+use Rattle.history.proofs.Backing as backing
+use Rattle.history.proofs.Answering.{all-whole}
 
 module _ (n : ℕ) (low : formatMin ≤ n) (high : n ≤ areaMax) where
   -- ---- a fresh area is sound, and holds nothing
@@ -62,9 +68,24 @@ module _ (area : List ℕ) (used : ℕ) (tree : Tree) (sound : Sound area used t
   pub add-rooms : nameVerdict name ≡ Verdict.Accepted → used + lacks tree name value ≤ dataSize area → total (opRooms area (add name value)) ≡ lacks tree name value
   add-rooms = oneCall.add-rooms area used tree sound name value
 
+  -- ---- a refused one leaves the area sound, and the nodes that it linked stay: used includes them and, if only the long value failed, the entry's unwritten bytes
+  pub add-stays : nameVerdict name ≡ Verdict.Accepted → numberIn (call area (add name value)) ≢ noRefusal
+      → (now : Tree) × Sound (bytesIn (call area (add name value))) (used + total (opRooms area (add name value))) now × Stays area used tree name value (opRooms area (add name value)) now
+  add-stays = oneCall.add-stays area used tree sound name value
+
   -- ---- an update of a short entry with a value under 92 bytes is accepted
   pub update-accepted : (at serial : ℕ) (slot : List ℕ) → entryOf tree name ≡ entry at serial name (short slot) → length value < slotSize → numberIn (call area (update name value)) ≡ noRefusal
   update-accepted = oneCall.update-accepted area used tree sound name value
+
+  -- ---- and no other
+  pub update-only : numberIn (call area (update name value)) ≡ noRefusal
+      → (at : ℕ) × (serial : ℕ) × (slot : List ℕ) × (entryOf tree name ≡ entry at serial name (short slot)) × (length value < slotSize)
+  update-only = oneCall.update-only area used tree sound name value
+
+  -- ---- and leaves the value that was shown before, and its zero, in the backup slot
+  pub update-backs : numberIn (call area (update name value)) ≡ noRefusal → (old : List ℕ) → shown area name ≡ accepted old → (j : ℕ) → j ≤ length old
+      → getD (bytesIn (call area (update name value))) (byteOf backupAt + j) 0 ≡ getD (old ++ 0 ∷ []) j 0
+  update-backs = backing.update-backs area used tree sound name value
 
 -- ---- a call changes what its own name shows, and no other's
 pub others-kept : (area : List ℕ) (used : ℕ) (tree : Tree) → Sound area used tree → (op : Op) (other : List ℕ) → other ≢ opName op
@@ -91,25 +112,40 @@ module _ (area : List ℕ) (used : ℕ) (tree : Tree) (sound : Sound area used t
   pub run-missing : (name : List ℕ) → anyEmpty (segments name) ≡ false → told area name ops (toldBy (shown area name)) ≡ none → shown (after area ops) name ≡ refuse Refusal.Missing
   run-missing = telling.run-missing area used tree sound ops
 
+  -- ---- a name that showed nothing is told a value exactly if it has an accepted add
+  pub run-told-added : (name : List ℕ) → toldBy (shown area name) ≡ none → (value : List ℕ) → told area name ops none ≡ some value → added area name ops ≡ true
+  run-told-added = adding.run-told-added area used tree sound ops
+
+  pub run-added-told : (name : List ℕ) (before : Option (List ℕ)) → added area name ops ≡ true → (value : List ℕ) × (told area name ops before ≡ some value)
+  run-added-told = adding.added-told ops area
+
+  -- ---- so of such a name no update is accepted before an add is
+  pub run-update-added : (name : List ℕ) → toldBy (shown area name) ≡ none → (value : List ℕ) → numberIn (call (after area ops) (update name value)) ≡ noRefusal → added area name ops ≡ true
+  run-update-added = adding.run-update-added area used tree sound ops
+
   -- ---- the used mark has moved by the rooms of all objects that were given room, those of refused adds included
   pub run-used : headerWord (after area ops) usedField ≡ used + total (given area ops)
   run-used = let r = ran ops area used tree sound in r .sound .front .mark ∙ r .mark
 
-  -- ---- no add or update by name after it answers damage or a bad header
-  pub run-whole : (op : Op) → Undamaged (numberIn (call (after area ops) op))
-  run-whole op = let r = ran ops area used tree sound in next (after area ops) (r .grown) (r .now) (r .sound) op .whole
+  -- ---- no call on it answers damage or a bad header, whatever its buffers and however it is judged
+  pub run-undamaged : (number : ℕ) → Answers (after area ops) number → Undamaged number
+  run-undamaged = let r = ran ops area used tree sound in all-whole (after area ops) (r .grown) (r .now) (r .sound)
 
-  -- ---- a lookup compares at most (used - 112) / 24 nodes: found, by the count it answers
-  pub run-cost : (name : List ℕ) (at count : ℕ) → findSteps (after area ops) name ≡ accepted (hit at count) → count ≤ (headerWord (after area ops) usedField - firstFree) / 24
-  run-cost name at count f =
-      let r = ran ops area used tree sound in
-      omega (arith, find-cost (after area ops) (r .grown) (r .now) (r .sound) name at count f, r .sound .front .mark)
-
-  -- ---- and whatever it answers, by the nodes that it compares over the bytes
-  pub run-costs : (name : List ℕ) → walkCost (after area ops) (segments name) rootAt ≤ (headerWord (after area ops) usedField - firstFree) / 24
-  run-costs name =
+  -- ---- a lookup compares at most (used - 112) / 24 nodes, found or refused
+  pub run-cost : (name : List ℕ) → length (walked (after area ops) name) ≤ (headerWord (after area ops) usedField - firstFree) / 24
+  run-cost name =
       let r = ran ops area used tree sound in
       omega (arith, walk-bound (after area ops) (r .grown) (r .now) (r .sound) name, r .sound .front .mark)
+
+  -- ---- found, it tells just that count
+  pub run-count : (name : List ℕ) (at count : ℕ) → findSteps (after area ops) name ≡ accepted (hit at count) → count ≡ length (walked (after area ops) name)
+  run-count = let r = ran ops area used tree sound in find-count (after area ops) (r .grown) (r .now) (r .sound)
+
+  -- ---- and the names that it scans, no byte twice, have at most used - 112 bytes
+  pub run-scans : (name : List ℕ) → summed (nameSize (after area ops)) (walked (after area ops) name) ≤ headerWord (after area ops) usedField - firstFree
+  run-scans name =
+      let r = ran ops area used tree sound in
+      omega (arith, walk-scans (after area ops) (r .grown) (r .now) (r .sound) name, r .sound .front .mark)
 
   -- ---- check accepts it
   pub run-checks : (scratch : List ℕ) → scratchMin (after area ops) ≤ length scratch → (judged : Judged (after area ops)) → checkSteps (after area ops) scratch judged ≡ acceptLeaving (blank scratch)
@@ -147,10 +183,53 @@ module _ (n : ℕ) (low : formatMin ≤ n) (high : n ≤ areaMax) (ops : List Op
   pub fresh-run-used : headerWord (after (fresh n) ops) usedField ≡ firstFree + total (given (fresh n) ops)
   fresh-run-used = run-used (fresh n) firstFree leaf (fresh-sound n low high) ops
 
-  -- ---- no add or update by name answers damage or a bad header
-  pub fresh-run-whole : (op : Op) → Undamaged (numberIn (call (after (fresh n) ops) op))
-  fresh-run-whole = run-whole (fresh n) firstFree leaf (fresh-sound n low high) ops
+  -- ---- nothing ever reports damage, or a bad header
+  pub fresh-run-undamaged : (number : ℕ) → Answers (after (fresh n) ops) number → Undamaged number
+  fresh-run-undamaged = run-undamaged (fresh n) firstFree leaf (fresh-sound n low high) ops
 
   -- ---- a lookup shows the last accepted update, or else the first accepted add; any other name is refused as missing or malformed
   pub fresh-run-shows : (name : List ℕ) → AsTold (shown (after (fresh n) ops) name) (told (fresh n) name ops none)
   fresh-run-shows name = subst (λ (t : Option (List ℕ)). AsTold (shown (after (fresh n) ops) name) (told (fresh n) name ops t)) (fresh-untold n low high name) (run-shows (fresh n) firstFree leaf (fresh-sound n low high) ops name)
+
+  -- ---- a name is told a value exactly if it has an accepted add
+  pub fresh-told-added : (name value : List ℕ) → told (fresh n) name ops none ≡ some value → added (fresh n) name ops ≡ true
+  fresh-told-added name = run-told-added (fresh n) firstFree leaf (fresh-sound n low high) ops name (fresh-untold n low high name)
+
+  pub fresh-added-told : (name : List ℕ) → added (fresh n) name ops ≡ true → (value : List ℕ) × (told (fresh n) name ops none ≡ some value)
+  fresh-added-told name = run-added-told (fresh n) firstFree leaf (fresh-sound n low high) ops name none
+
+  -- ---- so no update is accepted before an add of its name is
+  pub fresh-update-added : (name value : List ℕ) → numberIn (call (after (fresh n) ops) (update name value)) ≡ noRefusal → added (fresh n) name ops ≡ true
+  fresh-update-added name = run-update-added (fresh n) firstFree leaf (fresh-sound n low high) ops name (fresh-untold n low high name)
+
+  -- ---- listing lists exactly the names with an accepted add: each of them,
+  pub fresh-run-lists : (grown : ℕ) (now : Tree) → Sound (after (fresh n) ops) grown now → (name : List ℕ) → added (fresh n) name ops ≡ true
+      → (at : ℕ) × (count : ℕ) × (findSteps (after (fresh n) ops) name ≡ accepted (hit at count)) × Has at (listed now)
+  fresh-run-lists grown now S name e =
+      let t = run-added-told (fresh n) firstFree leaf (fresh-sound n low high) ops name (toldBy (shown (fresh n) name)) e in
+      run-lists (fresh n) firstFree leaf (fresh-sound n low high) ops grown now S name (t .0) (t .1)
+
+  -- ---- and no other
+  pub fresh-run-listed : (grown : ℕ) (now : Tree) → Sound (after (fresh n) ops) grown now → (at : ℕ) → Has at (listed now)
+      → (name : List ℕ) × (added (fresh n) name ops ≡ true) × (count : ℕ) × (findSteps (after (fresh n) ops) name ≡ accepted (hit at count))
+  fresh-run-listed grown now S at has =
+      let l = run-listed (fresh n) firstFree leaf (fresh-sound n low high) ops grown now S at has in
+      (l .0, fresh-told-added (l .0) (l .1) (rw (fresh-untold n low high (l .0)) at (l .2)), l .3, l .4)
+
+  -- ---- demand 3, whole
+  pub demand : Demand (fresh n) ops
+  demand =
+      let whole = fresh-sound n low high in
+      let r = ran ops (fresh n) firstFree leaf whole in
+      let now = by-mark (after (fresh n) ops) (r .grown) (r .now) (r .sound) in
+      record {
+        shows = fresh-run-shows;
+        undamaged = fresh-run-undamaged;
+        tree = r .now;
+        sound = now;
+        apart = room-says (usedOf (after (fresh n) ops)) (r .now) (now .front .low) (now .room) .0;
+        used = fresh-run-used;
+        count = run-count (fresh n) firstFree leaf whole ops;
+        cost = run-cost (fresh n) firstFree leaf whole ops;
+        scans = run-scans (fresh n) firstFree leaf whole ops;
+      }

@@ -3,6 +3,7 @@ use Prim.Native.Nat.{ℕ, _+_, _≤_, _<_}
 use native.Mathlib.Omega.{arith}
 use mathlib.Core.Path.{_≡_, refl, _∙_}
 use mathlib.Core.Logic.{_⊎_, inl, inr}
+use mathlib.Core.Bool.{cond}
 use mathlib.Core.List.{List, [], _∷_}
 use lib.Dec.{ltb}
 use borrow.Author.Tests.{lt-ltb, le-ltb, ltb-true, ltb-false}
@@ -13,7 +14,10 @@ use Rattle.layout.specs.Layout.{wordMax, usedField, dataSize, headerWord}
 use Rattle.layout.specs.Refusals.{numberOf}
 use Rattle.allocation.specs.Steps.{goes, stops, stopBy}
 use Rattle.allocation.specs.Allocate.{allocate}
-use Rattle.history.specs.Lack.{fullNumber}
+
+-- the refusal for want of room: 9 above 32 bits, else 4
+unfoldable pub fullNumber : ℕ → ℕ
+fullNumber grown = cond (ltb wordMax grown) (numberOf Refusal.TooLarge) (numberOf Refusal.NoRoom)
 
 module _ (area : List ℕ) (room used : ℕ) (mark : headerWord area usedField ≡ used) where
   pub room-given : dataSize area ≤ wordMax → used + room ≤ dataSize area

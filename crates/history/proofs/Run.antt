@@ -11,7 +11,7 @@ use Rattle.allocation.specs.Steps.{total}
 use Rattle.layout.specs.declared.refusal.Refusal.{Refusal}
 use Rattle.layout.specs.Refusals.{accepted, refuse, bytesIn}
 use Rattle.counters.specs.Distance.{serialAfter}
-use Rattle.sound.specs.Tree.{Entry, bare, entry, Tree}
+use Rattle.sound.specs.Tree.{Value, Entry, bare, entry, Tree}
 use Rattle.sound.specs.Sound.{Sound}
 use Rattle.property_area.specs.Lookup.{shown}
 use Rattle.history.specs.History.{Op, call, after, hear, heeded, told, toldBy, AsTold, sizeIn, updateSizes, opRooms, given}
@@ -67,6 +67,11 @@ ran (op ∷ ops) area used tree sound =
       lasts = λ name. lasts-then (entryOf tree name) (entryOf (n .now) name) (entryOf (r .now) name) (cond (heeded area name op) (sizeIn op) []) (updateSizes (bytesIn (call area op)) name ops)
           (n .lasts name) (r .lasts name);
     }
+
+-- ---- what is told of a name that has an entry: a value
+pub held-told : (own : Entry) (told : Option (List ℕ)) (at serial : ℕ) (full : List ℕ) (v : Value) → own ≡ entry at serial full v → Matches own told → (value : List ℕ) × (told ≡ some value)
+held-told own none at serial full v e m = absurd (rw e at m)
+held-told own (some value) at serial full v e m = (value, refl)
 
 -- ---- what is shown, by what is told
 module _ (area : List ℕ) (used : ℕ) (tree : Tree) (sound : Sound area used tree) (name : List ℕ) where

@@ -17,7 +17,7 @@ use Rattle.property_area.specs.Find.{hit}
 use Rattle.builder.specs.Add.{anyEmpty}
 use Rattle.sound.specs.Tree.{Value, Entry, bare, entry, Tree, leaf, node}
 use Rattle.sound.specs.Ways.{toLeft, toRight, toward, reached}
-use Rattle.finding.specs.Look.{turn, spot, compares, ownAnswer, byNode, look, costs}
+use Rattle.finding.specs.Look.{turn, spot, compares, ownAnswer, byNode, look}
 use Rattle.history.specs.Lack.{seek}
 
 -- one node of the search
@@ -35,28 +35,21 @@ seek-node segment rest above at name own left below right = by (segmentOrder seg
     by Less = refl
     by Greater = refl
 
--- ---- no segment is empty
-pub look-seek : (segs : List (List ℕ)) (own : Entry) (below : Tree) (compared : ℕ) → anyEmpty segs ≡ false
-    → look segs own below compared ≡ ownAnswer (seek segs own below) (compared + costs segs below)
-unfolding look seek costs anyEmpty
-look-seek [] own below compared full = rw add-zero
-look-seek (segment ∷ rest) own below compared full =
-    bool-cases (eqb (length segment) 0)
-    (λ t. let k : true ≡ false = rw t at full in clash cc)
-    (λ t. rw t (by (reached below (spot segment below)) (λ next under more. look-seek rest next under more (rw t at full))))
-  where
-    by : (end : Tree)
-        → ((next : Entry) (under : Tree) (more : ℕ) → look rest next under more ≡ ownAnswer (seek rest next under) (more + costs rest under))
-        → byNode end (refuse Refusal.Missing) (λ next under. look rest next under (compared + compares segment below))
-        ≡ ownAnswer (byNode end bare (λ next under. seek rest next under)) (compared + (compares segment below + byNode end 0 (λ next under. costs rest under)))
-    by leaf on = unfold ownAnswer in refl
-    by (node at name next left under right) on =
-        on next under (compared + compares segment below) ∙ ap (ownAnswer (seek rest next under)) (add-assoc compared (compares segment below) (costs rest under))
-
+-- ---- no segment is empty, and there is no entry
 pub look-none : (segs : List (List ℕ)) (own : Entry) (below : Tree) (compared : ℕ) → anyEmpty segs ≡ false → seek segs own below ≡ bare
     → look segs own below compared ≡ refuse Refusal.Missing
-unfolding ownAnswer
-look-none segs own below compared full is = look-seek segs own below compared full ∙ rw is
+unfolding look seek anyEmpty ownAnswer
+look-none [] own below compared full is = rw is
+look-none (segment ∷ rest) own below compared full is =
+    bool-cases (eqb (length segment) 0)
+    (λ t. let k : true ≡ false = rw t at full in clash cc)
+    (λ t. rw t (by (reached below (spot segment below)) is (λ next under more. look-none rest next under more (rw t at full))))
+  where
+    by : (end : Tree) → byNode end bare (λ next under. seek rest next under) ≡ bare
+        → ((next : Entry) (under : Tree) (more : ℕ) → seek rest next under ≡ bare → look rest next under more ≡ refuse Refusal.Missing)
+        → byNode end (refuse Refusal.Missing) (λ next under. look rest next under (compared + compares segment below)) ≡ refuse Refusal.Missing
+    by leaf none on = refl
+    by (node at name next left under right) none on = on next under (compared + compares segment below) none
 
 -- ---- what is found is the entry there
 abbrev pub IsAt : ℕ → Entry → Type 0

@@ -18,7 +18,7 @@ use Rattle.allocation.specs.Steps.{goes, stops, andThen, total}
 use Rattle.nodes.specs.Nodes.{hangNode, orHang, addNode, addSegment}
 use Rattle.sound.specs.Tree.{Entry, bare, Tree, leaf, node, link}
 use Rattle.sound.specs.Sound.{Sound}
-use Rattle.sound.specs.Ways.{Dir, toLeft, toBelow, toRight, toward, reached}
+use Rattle.sound.specs.Ways.{Dir, toLeft, toBelow, toRight, toward, reached, nodes}
 use Rattle.growth.specs.Plug.{plug, linkPlace}
 use Rattle.growth.proofs.Focus.{reached-at}
 use Rattle.growth.proofs.Joining.{reached-append, link-append, Along, along-reached, along-append, reached-plug}
@@ -27,11 +27,11 @@ use Rattle.finding.specs.Look.{turn, spot, compares}
 use Rattle.finding.proofs.NodeReads.{Standing, node-lies}
 use Rattle.finding.proofs.Searching.{linkOffset, endsAt, searchEnd, search-siblings, segment-siblings}
 use Rattle.finding.proofs.LookWays.{spot-named}
-use Rattle.history.specs.Lack.{fullNumber}
+use Rattle.history.proofs.Rooms.{fullNumber}
 use Rattle.history.proofs.Hanging.{spot-along}
 use Rattle.history.proofs.Stood.{Stood, atNode, stood-along, stood-place, stands-at, stood-touched, above, above-append, above-plug}
 use Rattle.history.proofs.NodeHung.{NameRule, node-rule, spotAt, hungBytes, hung-size, hang-full, hang-goes, hang-sound}
-use Rattle.history.proofs.Hung.{Hung, same, more}
+use Rattle.history.proofs.Hung.{Hung, same, more, nodes-hang}
 
 -- ---- the offset and the byte place of the link to what a way reaches
 link-leaf : (way : List Dir) (place : ℕ) → linkPlace place leaf way ≡ place
@@ -80,6 +80,7 @@ module _ (area : List ℕ) (used : ℕ) (tree : Tree) (v : List Dir) (parent : �
     pub size : length after ≡ length area
     pub sound : Sound after (used + taken) now
     pub hung : Hung tree now
+    pub count : nodes now ≡ nodes tree + length rooms
     pub stood : Stood now (spotAt tree v segment ++ toBelow ∷ []) at
     pub under : reached now (spotAt tree v segment ++ toBelow ∷ []) ≡ siblings
     pub names : above now (spotAt tree v segment ++ toBelow ∷ []) ≡ above tree v ++ segment ∷ []
@@ -150,6 +151,7 @@ module _ (area : List ℕ) (used : ℕ) (tree : Tree) (v : List Dir) (parent : �
         size = refl;
         sound = rw (add-zero used) sound;
         hung = same tree;
+        count = omega arith;
         stood = atNode way at name own left below right there;
         under = reached-append way (toBelow ∷ []) tree ∙ rw there;
         names = further-names tree at name own left below right refl there
@@ -203,6 +205,7 @@ module _ (area : List ℕ) (used : ℕ) (tree : Tree) (v : List Dir) (parent : �
           size = hung-size area used place segment;
           sound = laid-sound;
           hung = more tree grown v parent used segment stood free (node-rule used segment (sound .front .aligned) named) (same grown);
+          count = nodes-hang way tree used segment free;
           stood = atNode way used segment bare leaf leaf leaf there-now;
           under = reached-append way (toBelow ∷ []) grown ∙ rw there-now;
           names = further-names grown used segment bare leaf leaf leaf (above-plug way tree (node used segment bare leaf leaf leaf) along) there-now refl;

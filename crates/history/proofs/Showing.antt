@@ -12,10 +12,10 @@ use Rattle.property_area.specs.Find.{Hit, hit}
 use Rattle.sound.specs.Tree.{Value, bare, entry, Tree}
 use Rattle.sound.specs.Sound.{Sound}
 use Rattle.sound.specs.Ways.{reached}
-use Rattle.finding.specs.Look.{look, costs, valueText}
+use Rattle.finding.specs.Look.{look, valueText}
 use Rattle.finding.proofs.FindLook.{find-look}
 use Rattle.finding.proofs.Spelling.{ownOf, one-name}
-use Rattle.finding.proofs.Costs.{Counts, look-counted}
+use Rattle.finding.proofs.Refusing.{Refuses, look-refuses}
 use Rattle.finding.proofs.Promises.{own-found, value-shown}
 use Rattle.history.specs.Lack.{entryOf}
 use Rattle.property_area.specs.Lookup.{shown}
@@ -40,9 +40,9 @@ module _ (area : List ℕ) (used : ℕ) (tree : Tree) (sound : Sound area used t
   shown-which number e = rw (find-look area name used tree sound, e)
 
   pub shown-none : entryOf tree name ≡ bare → (shown area name ≡ refuse Refusal.Missing) ⊎ (shown area name ≡ refuse Refusal.EmptySegment)
-  shown-none none = by (look (segments name) bare tree 0) refl (look-counted (segments name) tree)
+  shown-none none = by (look (segments name) bare tree 0) refl (look-refuses (segments name) bare tree 0)
     where
-      by : (answer : Answer Hit) → look (segments name) bare tree 0 ≡ answer → Counts (costs (segments name) tree) answer
+      by : (answer : Answer Hit) → look (segments name) bare tree 0 ≡ answer → Refuses answer
           → (shown area name ≡ refuse Refusal.Missing) ⊎ (shown area name ≡ refuse Refusal.EmptySegment)
       by (refused number) e (inl why) = inl (shown-which number e ∙ ap refused why)
       by (refused number) e (inr why) = inr (shown-which number e ∙ ap refused why)

@@ -6,7 +6,6 @@ use mathlib.Core.Logic.{_⊎_, inl, inr}
 use mathlib.Core.List.{List, [], _∷_}
 use mathlib.Core.Option.{Option, none, some}
 use lib.ListN.{length}
-use Rattle.words.proofs.Laws.{clash}
 use Rattle.names.specs.Names.{segments}
 use Rattle.layout.specs.declared.refusal.Refusal.{Refusal}
 use Rattle.layout.specs.Layout.{areaMax, serialField, firstFree, formatMin, wordAt, headerWord, usedField}
@@ -18,7 +17,7 @@ use Rattle.counters.specs.Distance.{distance, serialAfter}
 use Rattle.counters.proofs.Promises.{distance-counts}
 use Rattle.builder.specs.Fresh.{fresh}
 use Rattle.builder.specs.Add.{anyEmpty}
-use Rattle.sound.specs.Tree.{Value, Entry, bare, entry, Tree, leaf, listed}
+use Rattle.sound.specs.Tree.{Entry, bare, entry, Tree, leaf, listed}
 use Rattle.sound.specs.Sound.{Has, Sound}
 use Rattle.sound.specs.Ways.{reached}
 use Rattle.sound.proofs.Promises.{one-tree, one-mark}
@@ -31,7 +30,7 @@ use Rattle.history.proofs.Entries.{serial-read, entry-found, entry-list
 use Rattle.history.proofs.Seeking.{look-none}
 use Rattle.history.proofs.Showing.{shown-none, shown-which}
 use Rattle.history.proofs.Next.{Matches}
-use Rattle.history.proofs.Run.{ran, shown-matches}
+use Rattle.history.proofs.Run.{ran, held-told, shown-matches}
 
 -- a sound area, by the used mark that it has
 pub by-mark : (area : List ℕ) (used : ℕ) (tree : Tree) → Sound area used tree → Sound area (headerWord area usedField) tree
@@ -74,14 +73,8 @@ module _ (area : List ℕ) (used : ℕ) (tree : Tree) (sound : Sound area used t
       let h = listed-held now at has in
       let f = own-found (after area ops) grown now S (h .0) at (h .1) (h .2) (h .3) (h .4) in
       let q = found-entry (after area ops) grown now S (h .2) at (f .0) (f .1) in
-      let t = by (h .2) (entryOf now (h .2)) (q .0) (q .1) (q .2) (told area (h .2) ops (toldBy (shown area (h .2)))) refl (told-matches grown now S (h .2)) in
+      let t = held-told (entryOf now (h .2)) _ at (q .0) (h .2) (q .1) (q .2) (told-matches grown now S (h .2)) in
       (h .2, t .0, t .1, f .0, f .1)
-    where
-      by : (name : List ℕ) (own : Entry) (serial : ℕ) (v : Value) → own ≡ entry at serial name v → (t : Option (List ℕ)) → told area name ops (toldBy (shown area name)) ≡ t → Matches own t
-          → (value : List ℕ) × (told area name ops (toldBy (shown area name)) ≡ some value)
-      by name bare serial v h t e m = clash cc
-      by name (entry far s full w) serial v h none e m = absurd m
-      by name (entry far s full w) serial v h (some value) e m = (value, e)
 
   -- ---- updates counted
   pub run-distance : (name : List ℕ) (at count : ℕ) → findSteps area name ≡ accepted (hit at count) → length (updateSizes area name ops) < positions

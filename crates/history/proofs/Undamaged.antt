@@ -9,10 +9,7 @@ use Rattle.words.proofs.Laws.{clash}
 use Rattle.layout.specs.declared.refusal.Refusal.{Refusal}
 use Rattle.layout.specs.Refusals.{numberOf, noRefusal}
 use Rattle.layout.proofs.Numbers.{number-some, number-one}
-
--- neither damage nor a bad header
-abbrev pub Undamaged : ℕ → Type 0
-Undamaged number = (number ≢ numberOf Refusal.Damaged) × (number ≢ numberOf Refusal.BadHeader)
+use Rattle.history.specs.Calls.{Undamaged}
 
 -- the number of a refusal that is neither
 abbrev pub Mild : ℕ → Type 0

@@ -2,7 +2,7 @@
 use Prim.Native.Nat.{ℕ}
 use mathlib.Core.Path.{_≡_}
 use mathlib.Core.Logic.{_⊎_}
-use mathlib.Core.Bool.{Bool, cond, _&&_}
+use mathlib.Core.Bool.{Bool, true, false, cond, _&&_, _||_}
 use mathlib.Core.List.{List, [], _∷_, _++_}
 use mathlib.Core.Option.{Option, none, some}
 use lib.ListN.{length}
@@ -57,6 +57,15 @@ toldBy (refused number) = none
 abbrev pub AsTold : Answer (List ℕ) → Option (List ℕ) → Type 0
 AsTold answer (some value) = answer ≡ accepted value
 AsTold answer none = (answer ≡ refuse Refusal.Missing) ⊎ (answer ≡ refuse Refusal.EmptySegment)
+
+-- ---- whether a name has an accepted add
+abbrev pub isAdd : Op → Bool
+isAdd (add name value) = true
+isAdd (update name value) = false
+
+unfoldable pub added : List ℕ → List ℕ → List Op → Bool
+added area name [] = false
+added area name (op ∷ ops) = (heeded area name op && isAdd op) || added (bytesIn (call area op)) name ops
 
 -- ---- the lengths of the values of a name's accepted updates
 abbrev pub sizeIn : Op → List ℕ

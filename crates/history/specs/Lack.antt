@@ -6,9 +6,7 @@ use lib.ListN.{length}
 use lib.Dec.{ltb}
 use Rattle.allocation.specs.Steps.{total}
 use Rattle.names.specs.Names.{segments}
-use Rattle.layout.specs.declared.refusal.Refusal.{Refusal}
-use Rattle.layout.specs.Layout.{wordMax, slotSize, nodeTakes, entryTakes, valueTakes}
-use Rattle.layout.specs.Refusals.{numberOf}
+use Rattle.layout.specs.Layout.{slotSize, nodeTakes, entryTakes, valueTakes}
 use Rattle.sound.specs.Tree.{Entry, bare, entry, Tree, leaf}
 use Rattle.sound.specs.Ways.{reached}
 use Rattle.finding.specs.Look.{spot, byNode}
@@ -41,7 +39,3 @@ ownLacks (entry at serial full v) name value = 0
 
 abbrev pub lacks : Tree → List ℕ → List ℕ → ℕ
 lacks tree name value = missing (segments name) tree + ownLacks (entryOf tree name) name value
-
--- the refusal for want of room: 9 above 32 bits, else 4
-unfoldable pub fullNumber : ℕ → ℕ
-fullNumber grown = cond (ltb wordMax grown) (numberOf Refusal.TooLarge) (numberOf Refusal.NoRoom)

@@ -1,2 +1,5 @@
 pub mod History
 pub mod Lack
+pub mod Stays
+pub mod Calls
+pub mod Demand

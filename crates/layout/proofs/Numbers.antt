@@ -8,15 +8,15 @@ use borrow.Author.Tests.{eqb-false, not-true}
 use lib.Dec.{eqb}
 use denote.Struct.Field.{Field}
 use denote.Enum.Declared.{Choice}
-use Rattle.words.proofs.Laws.{bool-cases, clash}
+use Rattle.words.proofs.Laws.{clash}
 use Rattle.layout.specs.declared.refusal.Refusal.{Refusal}
 use Rattle.layout.specs.declared.refusal.Verdict.{Verdict}
 use Rattle.layout.specs.declared.refusal.Verdict.the-variants.{Accepted, Refused}
-use Rattle.layout.specs.Refusals.{numberOf, verdictNumber, Outcome, leaves}
+use Rattle.layout.specs.Refusals.{numberOf, noRefusal, verdictNumber, Outcome, leaves, acceptLeaving, refuseLeaving}
 use Rattle.layout.proofs.refusal.Refusal.{parts, as-values, make, eta}
 
 -- both of two tests hold
-both : (s t : Bool) → s && t ≡ true → (s ≡ true) × (t ≡ true)
+pub both : (s t : Bool) → s && t ≡ true → (s ≡ true) × (t ≡ true)
 both true true e = (refl, refl)
 both true false e = clash cc
 both false t e = clash cc
@@ -54,6 +54,10 @@ numbered c = numberOf (make c)
 
 pub number-some : (why : Refusal) → numberOf why ≢ 0
 number-some why = subst (λ (r : Refusal). numberOf r ≢ 0) (eta why) (fresh-says parts numbered 0 refl (as-values why))
+
+-- so what is accepted is not refused
+pub outcome-clash : {P : Type 0} (after left : List ℕ) (why : Refusal) → acceptLeaving after ≡ refuseLeaving left why → P
+outcome-clash after left why e = let z : noRefusal ≡ numberOf why = cc in absurd (number-some why (sym z))
 
 pub number-one : (a b : Refusal) → numberOf a ≡ numberOf b → a ≡ b
 number-one a b e =

@@ -1,10 +1,13 @@
 -- One law for each way out of the steps of specs/Nodes.antt.
-use mathlib.Core.Path.{_≡_, sym, _∙_}
+use mathlib.Core.Path.{_≡_, refl, sym, _∙_}
 use mathlib.Core.Bool.{true, false}
 use mathlib.Core.List.{List, [], _∷_}
+use mathlib.Core.Logic.{⊎-elim}
 use Prim.Native.Nat.{ℕ, _+_, _≤_}
 use native.Mathlib.Omega.{arith}
 use borrow.Author.Tests.{eq-eqb, ne-eqb}
+use types.Run.{OneOf}
+use denote.Enum.Declared.{tagOf}
 use lib.ListN.{length}
 use Rattle.words.specs.Words.{littleBytes, put}
 use Rattle.words.specs.Stores.{run}
@@ -13,13 +16,15 @@ use Rattle.names.specs.Names.{segments}
 use Rattle.names.proofs.Laws.{segmentsFrom, segments-whole}
 use Rattle.layout.specs.declared.refusal.Refusal.{Refusal}
 use Rattle.layout.specs.Layout.{wordMax, byteOf, nodeTakes, childrenField, nodeOk, wordAt}
+use Rattle.trie.proofs.trie.Searched.{the-type}
 use Rattle.trie.specs.declared.trie.Searched.{Searched}
 use Rattle.trie.specs.Trie.{nodesMax, searchFrom}
 use Rattle.allocation.specs.declared.Placed.{Placed}
 use Rattle.allocation.specs.Steps.{Step, goes, stopBy, andThen, linkTo}
 use Rattle.allocation.specs.View.{seen, placedStep}
 use Rattle.allocation.specs.Allocate.{allocate}
-use Rattle.nodes.specs.Nodes.{nodeStores, layNode, newNode, hangNode, addNode, addSegment, addPath}
+use Rattle.nodes.specs.Nodes.{nodeStores, layNode, newNode, hangNode, orHang, addNode, addSegment, addPath}
+use Rattle.nodes.specs.View.{refusalOf}
 use Rattle.allocation.proofs.StepLaws.{then-goes, then-through, placed-on, placed-stop}
 use Rattle.allocation.proofs.AllocateLaws.{allocate-room}
 
@@ -68,6 +73,12 @@ unfolding hangNode
 hang-stop area link name r after e why f = placed-stop (newNode area name) r after e (λ at laid. linkTo laid link at) why f
 
 -- ---- the search that lays down: s is what it found
+-- a search that neither names a node nor finds it missing: its tag is neither the first nor the second
+stopped : (area segment : List ℕ) (s : Searched) → OneOf (1 ∷ 2 ∷ []) (tagOf the-type s) → OneOf (0 ∷ 2 ∷ []) (tagOf the-type s) → orHang area segment s ≡ stopBy area (refusalOf s)
+stopped area segment (Searched.Named node n) o k = absurd (⊎-elim (λ e. omega arith) (λ e. omega arith) o)
+stopped area segment (Searched.Absent link n) o k = absurd (⊎-elim (λ e. omega arith) (λ e. omega arith) k)
+stopped area segment (Searched.Refused why) o k = refl
+
 module _ (area segment : List ℕ) (first : ℕ) (s : Searched) (e : s ≡ searchFrom area segment (nodesMax area) first 0) where
   pub add-named : (node n : ℕ) → s ≡ Searched.Named node n → goes node area [] ≡ seen (addNode area segment first)
   unfolding addNode seen
@@ -77,9 +88,10 @@ module _ (area segment : List ℕ) (first : ℕ) (s : Searched) (e : s ≡ searc
   unfolding addNode
   add-absent link n f t g = rw (← e, f) g
 
-  pub add-refused : (why : Refusal) → s ≡ Searched.Refused why → stopBy area why ≡ seen (addNode area segment first)
+  pub add-stop : OneOf (1 ∷ 2 ∷ []) (tagOf the-type s) → OneOf (0 ∷ 2 ∷ []) (tagOf the-type s)
+      → (r : Placed) → r ≡ Placed.Refused (refusalOf s) → placedStep r area ≡ seen (addNode area segment first)
   unfolding addNode seen
-  add-refused why f = rw (← e, f)
+  add-stop o k r f = rw (f, ← e, stopped area segment s o k)
 
 -- ---- a segment below a node: first is its children link
 module _ (area segment : List ℕ) (parent : ℕ) where

@@ -22,9 +22,9 @@ use Rattle.dumping.specs.Dump.{dumpText, fileListing}
 use Rattle.printed.specs.Printed.{judgedDump, fileDump}
 use Rattle.printed.proofs.TreeLines.{tree-lines}
 
--- no file has more entries: 24 * entries ≤ 65,536 - 128 - 112
+-- no file has more entries: 124 * entries ≤ 65,536 - 128 - 112
 abbrev pub entriesMax : ℕ
-entriesMax = 2720
+entriesMax = 526
 
 -- what is printed of a listing
 abbrev listingText : List ℕ → Listing → List ℕ

@@ -11,10 +11,12 @@ ghost use Rattle.answers.specs.Answers.{nameMax, textMax};
 ghost use Rattle.answers.specs.Lines.{lookupText};
 ghost use Rattle.printed.specs.Printed.{fileDump};
 ghost use Rattle.programs.specs.Owed.{Held, Ready, Owes, OwesIn};
+ghost use Rattle.programs.specs.Reading.{readableSize};
 use answers::FILE_MAX;
 use answers::NAME_MAX;
 use answers::Progress;
 use layout::Backup;
+use layout::Entry;
 use layout::Header;
 use layout::Node;
 use libc::STDIN_FILENO;
@@ -34,16 +36,38 @@ const TEXT_MAX: usize = 4 * FILE_MAX + 64;
 // The lookup gathers answers, and prints them when the next may have no room.
 const ANSWERS_SPACE: usize = 2 * TEXT_MAX;
 
-// What listing needs for any file: scratch, a byte for four of the file; and a place for each entry. Behind header, root and backup slot an entry has a node of 24 bytes at least.
+// What listing needs for any file: scratch, a byte for four of the file; and a place for each entry. Behind header, root and backup slot stand entries, each with a node: both have a
+// name, which takes 4 bytes at least.
 const SCRATCH_SPACE: usize = FILE_MAX / 4;
 
-const ENTRIES_MAX: usize = (FILE_MAX - Header::SIZE - Backup::END) / (Node::SIZE + 4);
+const ENTRIES_MAX: usize = (FILE_MAX - Header::SIZE - Backup::END)
+    / (Node::SIZE + 4 + Entry::SIZE + 4);
 
 fn print(text: &[u8]) {
     io::write_all(STDOUT_FILENO, text);
 }
 
-// Reads a file into the start of a buffer, and answers how many bytes. A file that cannot be read counts as empty; of a longer one there are as many bytes as the buffer has.
+// How many bytes of a file count, of which so many were read and a further read answered so.
+fn readable_size(size: usize, behind: isize) -> usize
+    ensures { λ r. ⌜ r ≡ readableSize size behind ⌝ }
+{
+    if behind == 0 { size } else { 0 }
+}
+
+// Reads an open file into the start of a buffer, and answers how many bytes. Where they do not fill the buffer, a further read has to find the file's end.
+fn read_whole(fd: i32, buf: &mut [u8]) -> usize
+    ensures { λ r. ⌜ Counts r (now (buf .exit)) ⌝ }
+{
+    let size = io::read_full(fd, buf);
+    if size == buf.len() {
+        return size;
+    }
+    let mut byte = [0u8; 1];
+    let behind = libc::read(fd, &mut byte);
+    readable_size(size, behind)
+}
+
+// Reads a file into the start of a buffer, and answers how many bytes. A file that cannot be read to its end counts as empty; of a longer one there are as many bytes as the buffer has.
 fn load(file: &[u8], buf: &mut [u8]) -> usize
     ensures { λ r. ⌜ Counts r (now (buf .exit)) ⌝ }
 {
@@ -51,7 +75,7 @@ fn load(file: &[u8], buf: &mut [u8]) -> usize
     if fd < 0 {
         return 0;
     }
-    let size = io::read_full(fd, buf);
+    let size = read_whole(fd, buf);
     libc::close(fd);
     size
 }
@@ -141,44 +165,24 @@ fn serve(area: &[u8], input: &[u8], line: &mut [u8], have: usize, out: &mut [u8]
     held
 }
 
-// One read of the input. No byte: the input has ended.
-fn read_some(input: i32, buf: &mut [u8]) -> usize
-    ensures { λ r. ⌜ Counts r (now (buf .exit)) ⌝ }
-{
-    let got = libc::read(input, buf);
-    io::count(got, buf)
-}
-
-// Reads the input once, and serves what was read. `more` becomes false where the input has ended.
-fn serve_some(
-    area: &[u8],
-    input: i32,
-    line: &mut [u8],
-    have: usize,
-    out: &mut [u8],
-    more: &mut bool,
-) -> usize
-    requires { ⌜ Ready (now line) have (now out) ⌝ }
-    ensures { λ r. ⌜ Held (now (line .exit)) r ⌝ }
-{
-    let mut space = io::large_buffer();
-    let size = read_some(input, &mut space);
-    if size == 0 {
-        *more = false;
-        return have;
-    }
-    serve(area, &space[..size], line, have, out)
-}
-
-// Serves all of the input. A proved loop has to end, and nothing says that the input does: the reads are counted down from 2^64 - 1.
+// Serves all of the input, piece by piece as it is read. Where a read fails the input ends, and a line that has not ended is no name.
+// A proved loop has to end, and nothing says that the input does: the reads are counted down from 2^64 - 1.
 fn serve_all(area: &[u8], input: i32, line: &mut [u8], out: &mut [u8])
     requires { ⌜ (nameMax < length (now line)) × (textMax ≤ length (now out)) ⌝ }
 {
+    let mut space = io::large_buffer();
     let mut held = 0;
-    let mut more = true;
     let mut reads = u64::MAX;
-    while reads > 0 && more {
-        held = serve_some(area, input, line, held, out, &mut more);
+    while reads > 0 {
+        let got = libc::read(input, &mut space);
+        if got < 0 {
+            return;
+        }
+        let size = io::count(got, &space);
+        if size == 0 {
+            break;
+        }
+        held = serve(area, &space[..size], line, held, out);
         reads -= 1;
     }
     finish(area, &line[..held], out);

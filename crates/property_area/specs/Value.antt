@@ -1,6 +1,5 @@
 -- Value (document 01): of the entry at an offset; and its name.
 use Prim.Native.Nat.{ℕ}
-use mathlib.Core.Bool.{cond}
 use mathlib.Core.List.{List, []}
 use Rattle.words.specs.Words.{part}
 use Rattle.layout.specs.declared.refusal.Refusal.{Refusal}

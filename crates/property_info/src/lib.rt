@@ -1,5 +1,6 @@
 // The entry: long or short, its name, where its value stands, and the writing of it. Every function takes an entry that lies in the area.
 ghost use mathlib.Core.Path.{_≡_};
+ghost use mathlib.Core.Bool.{true};
 ghost use Prim.Native.Nat.{_<_};
 ghost use lib.ListN.{length};
 ghost use Rattle.words.specs.Stores.{run};
@@ -23,7 +24,7 @@ pub fn is_long(area: &[u8], entry: Entry) -> bool
 }
 
 // The slot's bytes up to the first zero; all of them where there is none.
-pub fn short_value_bytes(area: &[u8], entry: Entry) -> Span
+fn short_value_bytes(area: &[u8], entry: Entry) -> Span
     requires { ⌜ EntryIn (now area) (entry .at) ⌝ }
     ensures { λ r. ⌜ r ≡ shortValue (now (area .entry)) (entry .at) ⌝ }
 {
@@ -41,9 +42,9 @@ pub fn property_info_name(area: &[u8], entry: Entry) -> Span
     layout::cstr_in(area, from, area.len() - from)
 }
 
-// The value of a long entry. It stands behind the entry and its name: anywhere else the entry's own bytes would be shown.
-pub fn long_property_value(area: &[u8], entry: Entry) -> Span
-    requires { ⌜ EntryIn (now area) (entry .at) ⌝ }
+// The value of a long entry: no other is asked for it. It stands behind the entry and its name: anywhere else the entry's own bytes would be shown.
+fn long_property_value(area: &[u8], entry: Entry) -> Span
+    requires { ⌜ (EntryIn (now area) (entry .at)) × (isLong (now area) (entry .at) ≡ true) ⌝ }
     ensures { λ r. ⌜ r ≡ longValue (now (area .entry)) (entry .at) ⌝ }
 {
     let name = property_info_name(area, entry);

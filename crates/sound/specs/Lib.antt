@@ -1,4 +1,5 @@
 pub mod Tree
 pub mod Sound
 pub mod Ways
+pub mod Links
 pub mod Objects

@@ -2,7 +2,6 @@
 use Prim.Native.Nat.{ℕ, _+_}
 use mathlib.Core.Path.{_≡_}
 use mathlib.Core.List.{List, [], _∷_}
-use Rattle.layout.specs.Layout.{leftField, rightField, childrenField}
 use Rattle.sound.specs.Tree.{Tree, leaf, node}
 
 pub data Dir : Type 0 where
@@ -14,12 +13,6 @@ toward dir leaf = leaf
 toward toLeft (node at name own left below right) = left
 toward toBelow (node at name own left below right) = below
 toward toRight (node at name own left below right) = right
-
--- the field of the link to it
-abbrev pub linkField : Dir → ℕ
-linkField toLeft = leftField
-linkField toBelow = childrenField
-linkField toRight = rightField
 
 unfoldable pub reached : Tree → List Dir → Tree
 reached tree [] = tree

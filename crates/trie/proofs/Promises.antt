@@ -1,10 +1,25 @@
--- What the search promises of any bytes: the bound on the nodes compared.
+-- What the search promises of any bytes: the bound on the nodes compared, counted by the search itself (`visits`), whatever it answers.
 use mathlib.Core.List.{List}
-use Prim.Native.Nat.{ℕ, _≤_}
+use mathlib.Core.Path.{_≡_}
+use mathlib.Core.Logic.{_⊎_}
+use Prim.Native.Nat.{ℕ, suc, _≤_, _<_}
+use lib.ListN.{length}
+use Rattle.layout.specs.declared.refusal.Refusal.{Refusal}
+use Rattle.trie.specs.declared.trie.Searched.{Searched}
 use Rattle.trie.specs.Trie.{nodesMax, segmentSteps}
-use Rattle.trie.proofs.Bounds.{comparedIn}
+use Rattle.trie.specs.Visits.{visits}
 use Rattle.trie.proofs.Bounds as bounds
 
--- ---- one segment compares at most data size / 20 + 1 nodes, on any bytes
-pub segment-bound : (area segment : List ℕ) (parent : ℕ) → comparedIn (segmentSteps area segment parent) ≤ nodesMax area
-segment-bound = bounds.segment-bound
+module _ (area segment : List ℕ) (parent : ℕ) where
+  -- ---- one segment compares at most data size / 20 + 1 nodes
+  pub segment-bound : length (visits (nodesMax area) area segment parent) ≤ nodesMax area
+  segment-bound = bounds.segment-bound area segment parent
+
+  -- ---- where another would be needed, the answer is 5
+  pub segment-another : nodesMax area < length (visits (suc (nodesMax area)) area segment parent) → segmentSteps area segment parent ≡ Searched.Refused Refusal.Damaged
+  segment-another = bounds.segment-another area segment parent
+
+  -- ---- a search that ends at a node or at a zero link tells how many it compared
+  pub segment-counts : (at compared : ℕ) → (segmentSteps area segment parent ≡ Searched.Named at compared) ⊎ (segmentSteps area segment parent ≡ Searched.Absent at compared)
+      → compared ≡ length (visits (nodesMax area) area segment parent)
+  segment-counts = bounds.segment-counts area segment parent

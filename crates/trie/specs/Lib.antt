@@ -1,2 +1,3 @@
 pub mod Header
 pub mod Trie
+pub mod Visits

@@ -1,4 +1,5 @@
 pub mod Laws
 pub mod Keeping
 pub mod BackupLaws
+pub mod Telling
 pub mod Promises

@@ -1,4 +1,5 @@
--- What updates promise of any bytes: no second outcome, which bytes a refusal changes, and what the backup slot then holds.
+-- What updates promise of any bytes: no second outcome, which bytes a refusal changes, what 0 says, and what the backup slot then holds.
+-- `Keeps` and `rawTests` stand in Keeping.antt, `UpdateTells` in Telling.antt.
 use mathlib.Core.Path.{_≡_}
 use mathlib.Core.Bool.{true, false}
 use mathlib.Core.List.{List, [], _∷_, _++_}
@@ -6,13 +7,16 @@ use Prim.Native.Nat.{ℕ, _+_, _≤_, _<_}
 use lib.ListN.{length, getD}
 use Rattle.words.specs.Stores.{run}
 use Rattle.layout.specs.declared.refusal.Verdict.{Verdict}
-use Rattle.layout.specs.Layout.{slotSize, backupAt, firstFree, byteOf}
-use Rattle.layout.specs.Refusals.{verdictNumber, leaves}
+use Rattle.layout.specs.Layout.{serialField, backupAt, byteOf, wordAt}
+use Rattle.layout.specs.Refusals.{accepted, verdictNumber, leaves, acceptLeaving}
 use Rattle.layout.proofs.Promises.{one-outcome}
-use Rattle.updates.specs.Update.{backupStores, slotText, updateStores, updateSteps, rawSteps}
+use Rattle.property_info.specs.Written.{writeStores}
+use Rattle.property_area.specs.Find.{hit, findSteps}
+use Rattle.updates.specs.Update.{backupStores, slotText, updateSteps, rawSteps}
 use Rattle.updates.proofs.Keeping.{Keeps, rawTests}
 use Rattle.updates.proofs.Keeping as keeping
-use Rattle.updates.proofs.BackupLaws as backups
+use Rattle.updates.proofs.Telling.{UpdateTells}
+use Rattle.updates.proofs.Telling as telling
 
 -- ---- no second verdict, and no other bytes, satisfy the contract of update by name
 pub one-update : (area name value : List ℕ) (v w : Verdict) (a b : List ℕ)
@@ -36,7 +40,16 @@ raw-early area at backup value e = keeping.raw-early area at backup value e
 pub raw-late : (area : List ℕ) (at : ℕ) (backup value : List ℕ) → rawTests area backup ≡ true → Keeps (run area (backupStores backup)) (rawSteps area at backup value)
 raw-late area at backup value e = keeping.raw-late area at backup value e
 
--- ---- an update of an entry behind the backup slot leaves the old value and its zero in the slot
-pub update-backup : (area : List ℕ) (at : ℕ) (value : List ℕ) (j : ℕ) → firstFree ≤ at → byteOf firstFree ≤ length area → length (slotText area at) < slotSize → j ≤ length (slotText area at)
-    → getD (run area (updateStores area at value)) (byteOf backupAt + j) 0 ≡ getD (slotText area at ++ 0 ∷ []) j 0
-update-backup area at value j h k l m = backups.update-backup area at value j h k l m
+-- ---- an update that answers 0 found the name's entry, with a short value that it showed till then, and made all its stores
+pub update-tells : (area name value after : List ℕ) → acceptLeaving after ≡ updateSteps area name value → UpdateTells area name value after
+update-tells = telling.update-tells
+
+-- ---- the backup slot then holds the old value and its zero, so far as it lies before the entry: all of it, where the entry is at 112 or later
+pub update-backup : (area name value after : List ℕ) → acceptLeaving after ≡ updateSteps area name value → (at n : ℕ) → findSteps area name ≡ accepted (hit at n)
+    → (j : ℕ) → j ≤ length (slotText area at) → backupAt + j < at → getD after (byteOf backupAt + j) 0 ≡ getD (slotText area at ++ 0 ∷ []) j 0
+update-backup = telling.update-backup
+
+-- ---- a raw update that answers 0 stored the backup, and then made all its stores
+pub raw-tells : (area : List ℕ) (at : ℕ) (backup value after : List ℕ) → acceptLeaving after ≡ rawSteps area at backup value
+    → after ≡ run (run area (backupStores backup)) (writeStores at (wordAt (run area (backupStores backup)) at serialField) value)
+raw-tells = telling.raw-tells

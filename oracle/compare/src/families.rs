@@ -9,32 +9,32 @@ use crate::text;
 
 type Family = fn(&mut Case) -> Outcome;
 
-/// Each family with its share of the cases.
-const FAMILIES: [(Family, usize); 9] = [
-    (history, 4),
-    (damaged, 8),
-    (every_length, 4),
-    (every_word, 8),
-    (every_used, 4),
-    (exact_bound, 2),
-    (brim, 2),
-    (overlap, 4),
-    (wrong_header, 1),
+/// Each family with its name and its share of the cases.
+const FAMILIES: [(&str, Family, usize); 9] = [
+    ("history", history, 4),
+    ("damaged", damaged, 8),
+    ("every length", every_length, 4),
+    ("every word", every_word, 8),
+    ("every used", every_used, 4),
+    ("exact bound", exact_bound, 2),
+    ("brim", brim, 2),
+    ("overlap", overlap, 4),
+    ("wrong header", wrong_header, 1),
 ];
 
-/// Plays the case with that number.
-pub fn play_case(player: &mut Player, seed: u64, number: usize, brief: bool) -> Outcome {
-    let round: usize = FAMILIES.iter().map(|(_, share)| share).sum();
+/// Plays the case with that number; its family's name.
+pub fn play_case(player: &mut Player, seed: u64, number: usize, brief: bool) -> Outcome<&'static str> {
+    let round: usize = FAMILIES.iter().map(|(_, _, share)| share).sum();
     let mut slot = number % round;
-    for (family, share) in FAMILIES {
+    for (name, family, share) in FAMILIES {
         if slot < share {
             let turn = number / round * share + slot;
             let case_seed = Rng::new(seed ^ (number as u64).rotate_left(32)).next();
-            return family(&mut Case::new(player, case_seed, turn, brief));
+            return family(&mut Case::new(player, case_seed, turn, brief)).map(|()| name);
         }
         slot -= share;
     }
-    Ok(())
+    unreachable!("a slot is less than all shares together")
 }
 
 /// Adds, updates and lookups on a fresh area.

@@ -4,9 +4,11 @@ mod area;
 mod case;
 mod counts;
 mod damage;
-#[cfg(test)]
+#[cfg(all(test, feature = "original"))]
 mod examples;
 mod families;
+#[cfg(feature = "mutants")]
+mod kept;
 #[cfg(feature = "mutants")]
 mod mutation;
 mod op;
@@ -30,8 +32,9 @@ const USAGE: &str = "usage: compare run SIDE MILLIONS SEED
        compare replay SIDE FILE
        compare mutants CALLS SEED    (feature mutants)
        compare vectors FILE SEED     (feature mutants)
-SIDE is twin; archive, bytes or mutant-NUMBER with the features of that name (bytes: archive).";
+SIDE is twin; archive, bytes or mutant-NUMBER with the features of that name (bytes: archive). All but bytes: feature original.";
 
+#[cfg(feature = "original")]
 const TWIN: Ours = Ours::against_original("twin", &twin::Twin);
 
 /// Differences that are shown before a run gives up.
@@ -51,7 +54,7 @@ fn command(words: &[&str]) -> Option<bool> {
         #[cfg(feature = "mutants")]
         ["mutants", calls, seed] => mutation::check(calls.parse().ok()?, seed.parse().ok()?),
         #[cfg(feature = "mutants")]
-        ["vectors", file, seed] => mutation::write_vectors(TWIN, file, seed.parse().ok()?),
+        ["vectors", file, seed] => kept::write(TWIN, file, seed.parse().ok()?),
         ["replay", name, file] => replay_vectors(side(name)?, file),
         _ => return None,
     })
@@ -59,8 +62,9 @@ fn command(words: &[&str]) -> Option<bool> {
 
 fn side(name: &str) -> Option<Ours> {
     match name {
+        #[cfg(feature = "original")]
         "twin" => Some(TWIN),
-        #[cfg(feature = "archive")]
+        #[cfg(all(feature = "archive", feature = "original"))]
         "archive" => Some(Ours::against_original("archive", &archive::Archive)),
         #[cfg(feature = "archive")]
         "bytes" => Some(Ours {

@@ -44,7 +44,7 @@ pub enum Op {
     },
 }
 
-#[derive(Clone, Copy, PartialEq, Eq)]
+#[derive(Clone, Copy, PartialEq, Eq, PartialOrd, Ord)]
 pub enum Kind {
     Format,
     Add,
@@ -67,6 +67,11 @@ impl Kind {
         (Kind::BackupRead, "backup read"),
         (Kind::Distance, "distance"),
     ];
+
+    #[cfg(feature = "mutants")]
+    pub fn name(self) -> &'static str {
+        Self::ALL[self as usize].1
+    }
 }
 
 /// What a call leaves beside the area's bytes.

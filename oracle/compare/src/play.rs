@@ -2,9 +2,8 @@
 
 use crate::area::Area;
 use crate::counts::Counts;
-use crate::op::{Answer, Op};
+use crate::op::{Answer, Kind, Op};
 use calls::{Side, UNMAPPED};
-use original::Original;
 use std::fmt;
 
 /// The longest area that is tried: a little over document 01's limit.
@@ -19,9 +18,10 @@ pub struct Ours {
     pub judge: &'static dyn Side,
 }
 
+#[cfg(feature = "original")]
 impl Ours {
     pub const fn against_original(name: &'static str, side: &'static dyn Side) -> Self {
-        Ours { name, side, judge_name: "original", judge: &Original }
+        Ours { name, side, judge_name: "original", judge: &original::Original }
     }
 }
 
@@ -91,17 +91,20 @@ impl Pair {
 pub struct Player {
     pair: Pair,
     pub log: Vec<Op>,
+    /// The log's calls, each with its refusal.
+    pub refusals: Vec<(Kind, u32)>,
     pub counts: Counts,
 }
 
 impl Player {
     pub fn new(ours: Ours) -> Self {
-        Player { pair: Pair::new(ours), log: Vec::new(), counts: Counts::default() }
+        Player { pair: Pair::new(ours), log: Vec::new(), refusals: Vec::new(), counts: Counts::default() }
     }
 
     /// A new case starts with a buffer of zeros.
     pub fn start(&mut self) {
         self.log.clear();
+        self.refusals.clear();
         self.pair.judge.clear();
         self.pair.our_area.clear();
     }
@@ -111,7 +114,9 @@ impl Player {
         let op = &self.log[self.log.len() - 1];
         let answer = self.pair.step(op);
         if let Some(kind) = op.kind() {
-            self.counts.add(kind, answer.as_ref().unwrap_or_else(|difference| &difference.judge));
+            let judged = answer.as_ref().unwrap_or_else(|difference| &difference.judge);
+            self.counts.add(kind, judged);
+            self.refusals.push((kind, judged.refusal));
         }
         answer
     }

@@ -1,7 +1,7 @@
 //! Fixed vectors: steps with their answers in one file, so that a small program in any language can replay them.
 //!
 //! Fields are little-endian u32; byte strings follow their lengths without padding. The file is the number of records, then the
-//! records one after the other. The replaying program has one buffer of 4,096 bytes, zero at first.
+//! records one after the other. The replaying program has one buffer of 131,080 bytes, zero at first.
 //!
 //! | opcode | arguments | answers |
 //! |---|---|---|
@@ -18,14 +18,14 @@
 //! A record is opcode, arguments, answers, and the Adler-32 (RFC 1950) of the area's bytes after the step.
 
 use crate::area::Area;
-use crate::case::BRIEF_LENGTH;
 use crate::op::{Answer, Op};
+use crate::play::CAPACITY;
 use calls::Side;
 
 /// The whole file for these steps, with the answers that `side` gives.
 #[cfg(feature = "mutants")]
 pub fn file(steps: &[Op], side: &dyn Side) -> Vec<u8> {
-    let mut area = Area::new(BRIEF_LENGTH, 0);
+    let mut area = Area::new(CAPACITY, 0);
     let mut out = (steps.len() as u32).to_le_bytes().to_vec();
     for op in steps {
         out.extend(record(op, side, &mut area));
@@ -36,7 +36,7 @@ pub fn file(steps: &[Op], side: &dyn Side) -> Vec<u8> {
 /// Plays a file on `side`; the number of records, or which of them differs.
 pub fn replay(file: &[u8], side: &dyn Side) -> Result<usize, String> {
     let mut reader = Reader { bytes: file, at: 0 };
-    let mut area = Area::new(BRIEF_LENGTH, 1);
+    let mut area = Area::new(CAPACITY, 1);
     let count = reader.word().ok_or("no records")? as usize;
     for index in 0..count {
         let from = reader.at;

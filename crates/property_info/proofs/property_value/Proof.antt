@@ -9,7 +9,7 @@ is-long-requires : tie.Need-is-long-requires
 is-long-requires c κs = search needs
 
 long-property-value-requires : tie.Need-long-property-value-requires
-long-property-value-requires c κs = search needs
+long-property-value-requires c κs = (search needs, sym (c .before .is-long .ensures) ∙ c .if1 .taken)
 
 returns : tie.Need-returns
 returns c = c .long-property-value .ensures ∙ value-long _ _ (sym (c .before .before .is-long .ensures) ∙ c .before .if1 .taken)

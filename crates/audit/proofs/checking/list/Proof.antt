@@ -1,6 +1,6 @@
 -- `checking::list` counts first, so that the list is kept on any refusal, then surveys with the list. Assumes nothing.
 use denote.Ref.{now}
-use Rattle.audit.proofs.CheckLaws.{list-refused, list-room, list-short, list-listed}
+use Rattle.audit.proofs.CheckLaws.{list-refused, list-room, list-unlisted, list-listed}
 use borrow.Author.Needs.{needs}
 use Rattle.audit.proofs.checking.list.Statement.{statement}
 use Rattle.audit.proofs.checking.list.Tie as tie
@@ -22,7 +22,7 @@ returns c =
     let s = c .before .before .before .before .before .before .before .before .before .before .before in
     let k = c .before .before .before .before .before .before .count in
     let f = c .before .before .entries in
-    list-short (now (s .args .area)) (now (s .args .scratch)) (k .last .1 .0) (k .result) (k .ensures) (now (s .args .list)) (f .given .0 .0) (f .given .1) (c .if1 .taken)
+    list-unlisted (now (s .args .area)) (now (s .args .scratch)) (k .last .1 .0) (k .result) (k .ensures) (now (s .args .list)) (f .given .0 .0) (f .given .1) (c .if1 .taken)
 
 survey-requires : tie.Need-survey-requires
 survey-requires c κs =
