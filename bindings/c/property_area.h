@@ -5,7 +5,7 @@
  * (NULL goes with length 0), and buffers that a call writes overlap no other buffer of that call.
  *
  * Bytes that nobody vouches for are checked first (pa_check). Every call ends on any bytes, but in a damaged area the time of one lookup can grow
- * with the square of the area's length; in a sound one it scans at most used - 112 bytes of names. The check's time grows with the length.
+ * with the square of the area's length; in a sound one the nodes that it compares have at most used - 112 bytes. The check's time grows with the length.
  *
  * A refusal has a number. This is the one list of them: the Rust binding and the tool pa read it here.
  *    1  ZeroByte      a name to add has a zero byte

@@ -4,6 +4,7 @@
 //! - `small.area`: two settings, one updated, one long: the picture in the README.
 //! - `inverter.area`: an inverter's settings, some of them updated, one long.
 //! - `pulses.area`: two meters' energy pulses day by day, each counter added at 0 and updated three times, until the area is full.
+//! - `most.area`: as many entries as the programs can be given: 526 names of three digits, with empty values.
 //! - `settled.area`: the second settled example of document 01.
 //! - `large.area`: the same in more bytes than the programs take.
 //! - `damaged.area`: `inverter.area` with the root's children leading to the last bytes, where no node fits.
@@ -102,6 +103,24 @@ fn pulses() -> Result<Vec<u8>, Refusal> {
     Ok(bytes)
 }
 
+/// The names of these numbers, the middle one first, so that the tree is even.
+fn spread(area: &mut AreaMut, numbers: std::ops::Range<usize>) -> Result<(), Refusal> {
+    if numbers.is_empty() {
+        return Ok(());
+    }
+    let middle = (numbers.start + numbers.end) / 2;
+    area.add(format!("{middle:03}"), "")?;
+    spread(area, numbers.start..middle)?;
+    spread(area, middle + 1..numbers.end)
+}
+
+/// A node of 24 bytes and an entry of 100 for each name: 526 times 124 is all but 72 of the bytes behind the backup slot.
+fn most() -> Result<Vec<u8>, Refusal> {
+    let mut bytes = vec![0; 65_536];
+    spread(&mut AreaMut::format(&mut bytes)?, 0..526)?;
+    Ok(bytes)
+}
+
 /// The root node's children, the word at byte 128 + 16, lead to where no node fits before the end.
 fn damaged(mut bytes: Vec<u8>) -> Vec<u8> {
     bytes[144..148].copy_from_slice(&3_960u32.to_le_bytes());
@@ -121,6 +140,7 @@ fn main() -> Result<(), Box<dyn error::Error>> {
         ("damaged.area", damaged(settings.clone())),
         ("inverter.area", settings),
         ("pulses.area", pulses()?),
+        ("most.area", most()?),
     ];
     for (name, bytes) in areas {
         fs::write(Path::new(&folder).join(name), bytes)?;

@@ -46,6 +46,9 @@
 //!
 //! The bytes are borrowed as Rust means it: nobody else writes them meanwhile. A mapping that another process writes has to be copied
 //! first.
+//!
+//! Bytes that nobody vouches for are checked first ([`Area::check`]; listing does it itself). Every call ends on any bytes, but in a damaged
+//! area the time of one lookup can grow with the square of the length; the check's grows with the length.
 
 #![deny(clippy::unwrap_used, clippy::expect_used, clippy::panic, clippy::indexing_slicing, clippy::arithmetic_side_effects)]
 

@@ -28,7 +28,7 @@ one-add area name value v w a b p q = one-outcome (outcome (addSteps area name v
 pub format-tells : (area after : List ℕ) → acceptLeaving after ≡ formatSteps area → after ≡ fresh (length area)
 format-tells = keeping.format-tells
 
--- ---- an add that answers 0 is not refused: it went on to the name's entry
+-- ---- an add that answers 0 is not refused: it made all its steps, to an entry's offset
 pub add-tells : (area name value after : List ℕ) → acceptLeaving after ≡ outcome (addSteps area name value) → (prop : ℕ) × (rooms : List ℕ) × (addSteps area name value ≡ goes prop after rooms)
 add-tells = keeping.add-tells
 

@@ -9,8 +9,8 @@ use Rattle.words.proofs.Laws.{clash}
 use Rattle.names.specs.Names.{segments}
 use Rattle.layout.specs.Refusals.{accepted}
 use Rattle.property_area.specs.Find.{hit, findSteps}
-use Rattle.property_area.specs.Value.{bytes, valueSteps, partOrNone}
-use Rattle.property_info.specs.Entry.{valueOf}
+use Rattle.property_area.specs.Value.{bytes, valueSteps, nameSteps, partOrNone}
+use Rattle.property_info.specs.Entry.{nameOf, valueOf}
 use Rattle.sound.specs.Tree.{Value, bare, entry, Tree, leaf, node, listedOwn, listed}
 use Rattle.sound.specs.Sound.{Has, Sound}
 use Rattle.sound.specs.Ways.{Dir, toLeft, toBelow, toRight, toward, reached}
@@ -68,3 +68,11 @@ module _ (area : List ℕ) (used : ℕ) (tree : Tree) (sound : Sound area used t
       let stands = stands-reached way area used [] tree (stands-whole area used tree sound) in
       let read = own-reads area used (stands .0) (reached tree way) at serial name value (stands .1) is in
       part-shown area at (valueOf area at) (valueText value) (sound .front .header) (read .0) (read .1)
+
+  -- ---- and its name is its own
+  pub name-shown : (way : List Dir) (at serial : ℕ) (name : List ℕ) (value : Value) → ownOf (reached tree way) ≡ entry at serial name value
+      → (from : ℕ) × (to : ℕ) × (nameSteps area at ≡ accepted (bytes from to)) × (partOrNone area (nameSteps area at) ≡ name)
+  name-shown way at serial name value is =
+      let stands = stands-reached way area used [] tree (stands-whole area used tree sound) in
+      let read = own-reads area used (stands .0) (reached tree way) at serial name value (stands .1) is in
+      part-shown area at (nameOf area at) name (sound .front .header) (read .0) (read .2)

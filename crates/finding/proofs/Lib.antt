@@ -7,6 +7,6 @@ pub mod LookWays
 pub mod Refusing
 pub mod ValueReads
 pub mod Passing
-pub mod Scanning
+pub mod Reading
 pub mod Found
 pub mod Promises

@@ -10,7 +10,7 @@ use Rattle.names.specs.declared.Order.{Order}
 use Rattle.names.specs.declared.Order.the-variants.{Less, Equal, Greater}
 use Rattle.layout.specs.declared.refusal.Refusal.{Refusal}
 use Rattle.layout.specs.Refusals.{Answer, accepted, refuse}
-use Rattle.layout.specs.Layout.{nodeSize, namelenField, placeOf, wordAt}
+use Rattle.layout.specs.Layout.{nodeSize, namelenField, byteOf, wordAt}
 use Rattle.property_area.specs.Find.{Hit, hit}
 use Rattle.sound.specs.Tree.{Value, short, long, Entry, bare, entry, Tree, leaf, node, inside}
 use Rattle.sound.specs.Ways.{Dir, toLeft, toRight, reached}
@@ -54,13 +54,13 @@ unfoldable pub valueText : Value → List ℕ
 valueText (short slot) = upToZero slot
 valueText (long far text) = text
 
--- ---- what a lookup scans: the names of the nodes that it compares (`walked`), each with its zero
-abbrev pub nameSize : List ℕ → ℕ → ℕ
-nameSize area at = wordAt area at namelenField + 1
+-- ---- what find reads: of each node that it compares (`walked`) the five words, the name and its zero
+abbrev pub nodeBytes : List ℕ → ℕ → ℕ
+nodeBytes area at = nodeSize + wordAt area at namelenField + 1
 
--- 1 at each byte of a node's name and its zero, 0 elsewhere
-abbrev pub nameCover : List ℕ → ℕ → ℕ → ℕ
-nameCover area i at = inside (placeOf at nodeSize) (nameSize area at) i
+-- 1 at each of these bytes, 0 elsewhere
+abbrev pub nodeCover : List ℕ → ℕ → ℕ → ℕ
+nodeCover area i at = inside (byteOf at) (nodeBytes area at) i
 
 -- over some nodes
 unfoldable pub summed : (ℕ → ℕ) → List ℕ → ℕ

@@ -6,26 +6,28 @@ use mathlib.Core.Bool.{true, false}
 use mathlib.Core.List.{List}
 use lib.ListN.{length}
 use lib.Dec.{leb, ltb}
-use borrow.Author.Tests.{leb-false, le-ltb}
+use borrow.Author.Tests.{leb-false, le-leb, le-ltb}
 use Rattle.words.specs.Stores.{run}
 use Rattle.words.proofs.Laws.{bool-cases, clash}
 use Rattle.words.proofs.StoreLaws.{run-length}
 use Rattle.layout.specs.declared.refusal.Refusal.{Refusal}
-use Rattle.layout.specs.Layout.{entrySize, slotSize, backupAt, backupSize, dataSize, entryOk}
+use Rattle.layout.specs.Layout.{formatMin, areaMax, entrySize, slotSize, backupAt, backupSize, dataSize, entryOk}
 use Rattle.layout.specs.Refusals.{Answer, accepted, refused, numberOf, noRefusal, numberIn}
 use Rattle.layout.proofs.Promises.{touch-yes, touch-says}
 use Rattle.property_area.specs.Find.{Hit, hit, byHit, findSteps}
-use Rattle.property_area.specs.Value.{valueSteps}
+use Rattle.property_area.specs.Value.{valueSteps, nameSteps}
 use Rattle.property_area.specs.Lookup.{lookupSteps}
 use Rattle.property_area.specs.Backup.{backupSteps}
 use Rattle.property_area.proofs.Promises.{found-ok}
 use Rattle.property_info.specs.Entry.{isLong}
+use Rattle.trie.proofs.HeaderLaws.{header-max}
+use Rattle.builder.specs.Fresh.{formatSteps}
 use Rattle.updates.specs.Update.{valueVerdict, backupPastArea, backupStores, rawEntry, rawSteps}
 use Rattle.sound.specs.Tree.{Tree, listed}
 use Rattle.sound.specs.Sound.{Sound}
-use Rattle.finding.proofs.Promises.{find-refusals, found-own, value-shown}
+use Rattle.finding.proofs.Promises.{find-refusals, found-own, value-shown, name-shown}
 use Rattle.audit.specs.Check.{Judged, sound, unsound, scratchMin, surveySteps, checkSteps, listSteps}
-use Rattle.history.specs.Calls.{answerNumber, listingNumber, Answers, byCall, byFind, byLookup, byValue, byRaw, byBackup, byCheck, byList, Undamaged}
+use Rattle.history.specs.Calls.{answerNumber, listingNumber, Answers, byFormat, byCall, byFind, byLookup, byValue, byName, byRaw, byBackup, byCheck, byList, Undamaged}
 use Rattle.history.proofs.Undamaged.{undamaged, found-mild}
 use Rattle.history.proofs.Next.{next}
 use Rattle.history.proofs.Telling.{by-mark}
@@ -44,6 +46,16 @@ short-whole : Undamaged (numberOf Refusal.ShortBuffer)
 short-whole = undamaged _ (Refusal.ShortBuffer, refl, (λ d. clash cc), (λ h. clash cc))
 
 module _ (area : List ℕ) (used : ℕ) (tree : Tree) (whole : Sound area used tree) where
+  -- ---- anew
+  format-whole : Undamaged (numberIn (formatSteps area))
+  unfolding formatSteps
+  format-whole =
+      rw (
+        le-leb formatMin (length area) (omega (arith, whole .front .low, whole .front .high)),
+        le-leb (length area) areaMax (header-max area (whole .front .header)),
+      )
+      accepted-whole
+
   -- ---- of what find found
   module _ (name : List ℕ) (at count : ℕ) (found : findSteps area name ≡ accepted (hit at count)) where
     value-whole : Undamaged (answerNumber (valueSteps area at))
@@ -51,6 +63,12 @@ module _ (area : List ℕ) (used : ℕ) (tree : Tree) (whole : Sound area used t
         let own = found-own area used tree whole name at count found in
         let value = value-shown area used tree whole (own .0) at (own .1) name (own .2) (own .3) in
         rw (value .2) accepted-whole
+
+    name-whole : Undamaged (answerNumber (nameSteps area at))
+    name-whole =
+        let own = found-own area used tree whole name at count found in
+        let named = name-shown area used tree whole (own .0) at (own .1) name (own .2) (own .3) in
+        rw (named .2) accepted-whole
 
     raw-whole : (backup value : List ℕ) → Undamaged (numberIn (rawSteps area at backup value))
     unfolding rawSteps rawEntry valueVerdict
@@ -112,10 +130,12 @@ module _ (area : List ℕ) (used : ℕ) (tree : Tree) (whole : Sound area used t
   list-whole scratch list (unsound none) = absurd (none tree (by-mark area used tree whole))
 
   pub all-whole : (number : ℕ) → Answers area number → Undamaged number
+  all-whole number byFormat = format-whole
   all-whole number (byCall op) = next area used tree whole op .whole
   all-whole number (byFind name) = find-whole name
   all-whole number (byLookup name) = lookup-whole name
   all-whole number (byValue name at count found) = value-whole name at count found
+  all-whole number (byName name at count found) = name-whole name at count found
   all-whole number (byRaw name at count found backup value) = raw-whole name at count found backup value
   all-whole number (byBackup buffer) = backup-whole buffer
   all-whole number (byCheck scratch judged) = check-whole scratch judged

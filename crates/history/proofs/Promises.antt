@@ -24,8 +24,8 @@ use Rattle.builder.specs.Fresh.{fresh}
 use Rattle.builder.specs.Add.{anyEmpty, nameVerdict}
 use Rattle.sound.specs.Tree.{short, bare, entry, Tree, leaf, listed}
 use Rattle.sound.specs.Sound.{Has, Sound}
-use Rattle.finding.specs.Look.{look, nameSize, summed}
-use Rattle.finding.proofs.Promises.{walk-bound, find-count, walk-scans}
+use Rattle.finding.specs.Look.{look, nodeBytes, summed}
+use Rattle.finding.proofs.Promises.{walk-bound, find-count, walk-reads}
 use Rattle.sound.proofs.Promises.{room-says}
 use Rattle.audit.specs.Check.{usedOf, Judged, blank, scratchMin, checkSteps, lists, listSteps}
 use Rattle.audit.proofs.Promises.{check-accepts, list-accepts}
@@ -82,7 +82,7 @@ module _ (area : List ℕ) (used : ℕ) (tree : Tree) (sound : Sound area used t
       → (at : ℕ) × (serial : ℕ) × (slot : List ℕ) × (entryOf tree name ≡ entry at serial name (short slot)) × (length value < slotSize)
   update-only = oneCall.update-only area used tree sound name value
 
-  -- ---- and leaves the value that was shown before, and its zero, in the backup slot
+  -- ---- an accepted one leaves the value that was shown before, and its zero, in the backup slot
   pub update-backs : numberIn (call area (update name value)) ≡ noRefusal → (old : List ℕ) → shown area name ≡ accepted old → (j : ℕ) → j ≤ length old
       → getD (bytesIn (call area (update name value))) (byteOf backupAt + j) 0 ≡ getD (old ++ 0 ∷ []) j 0
   update-backs = backing.update-backs area used tree sound name value
@@ -127,11 +127,11 @@ module _ (area : List ℕ) (used : ℕ) (tree : Tree) (sound : Sound area used t
   pub run-used : headerWord (after area ops) usedField ≡ used + total (given area ops)
   run-used = let r = ran ops area used tree sound in r .sound .front .mark ∙ r .mark
 
-  -- ---- no call on it answers damage or a bad header, whatever its buffers and however it is judged
+  -- ---- no call on it answers damage or a bad header, whatever its buffers and however it is judged, at an offset that find answered
   pub run-undamaged : (number : ℕ) → Answers (after area ops) number → Undamaged number
   run-undamaged = let r = ran ops area used tree sound in all-whole (after area ops) (r .grown) (r .now) (r .sound)
 
-  -- ---- a lookup compares at most (used - 112) / 24 nodes, found or refused
+  -- ---- find compares at most (used - 112) / 24 nodes, found or refused
   pub run-cost : (name : List ℕ) → length (walked (after area ops) name) ≤ (headerWord (after area ops) usedField - firstFree) / 24
   run-cost name =
       let r = ran ops area used tree sound in
@@ -141,11 +141,11 @@ module _ (area : List ℕ) (used : ℕ) (tree : Tree) (sound : Sound area used t
   pub run-count : (name : List ℕ) (at count : ℕ) → findSteps (after area ops) name ≡ accepted (hit at count) → count ≡ length (walked (after area ops) name)
   run-count = let r = ran ops area used tree sound in find-count (after area ops) (r .grown) (r .now) (r .sound)
 
-  -- ---- and the names that it scans, no byte twice, have at most used - 112 bytes
-  pub run-scans : (name : List ℕ) → summed (nameSize (after area ops)) (walked (after area ops) name) ≤ headerWord (after area ops) usedField - firstFree
-  run-scans name =
+  -- ---- and these nodes, with their names, have at most used - 112 bytes
+  pub run-reads : (name : List ℕ) → summed (nodeBytes (after area ops)) (walked (after area ops) name) ≤ headerWord (after area ops) usedField - firstFree
+  run-reads name =
       let r = ran ops area used tree sound in
-      omega (arith, walk-scans (after area ops) (r .grown) (r .now) (r .sound) name, r .sound .front .mark)
+      omega (arith, walk-reads (after area ops) (r .grown) (r .now) (r .sound) name, r .sound .front .mark)
 
   -- ---- check accepts it
   pub run-checks : (scratch : List ℕ) → scratchMin (after area ops) ≤ length scratch → (judged : Judged (after area ops)) → checkSteps (after area ops) scratch judged ≡ acceptLeaving (blank scratch)
@@ -231,5 +231,5 @@ module _ (n : ℕ) (low : formatMin ≤ n) (high : n ≤ areaMax) (ops : List Op
         used = fresh-run-used;
         count = run-count (fresh n) firstFree leaf whole ops;
         cost = run-cost (fresh n) firstFree leaf whole ops;
-        scans = run-scans (fresh n) firstFree leaf whole ops;
+        reads = run-reads (fresh n) firstFree leaf whole ops;
       }

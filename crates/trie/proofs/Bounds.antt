@@ -1,6 +1,6 @@
 -- How many nodes a search compares, on any bytes: the bound, the answer where another would be needed, and the count that is told.
-use mathlib.Core.List.{List}
-use mathlib.Core.Path.{_≡_, refl, sym, _∙_}
+use mathlib.Core.List.{List, _∷_}
+use mathlib.Core.Path.{_≡_, refl, ap}
 use mathlib.Core.Logic.{_⊎_, inl, inr}
 use Prim.Native.Nat.{ℕ, zero, suc, _+_, _≤_, _<_}
 use native.Mathlib.Omega.{arith}
@@ -32,17 +32,33 @@ module _ (area segment : List ℕ) where
       by (Visited.Stop link) on = omega arith
       by Visited.Damaged on = omega arith
 
-  from-another : (more node n : ℕ) → more < length (visitsFrom area segment (suc more) node) → searchFrom area segment more node n ≡ Searched.Refused Refusal.Damaged
+  from-another : (more most node n : ℕ) → more < length (visitsFrom area segment most node) → searchFrom area segment more node n ≡ Searched.Refused Refusal.Damaged
   unfolding visitsFrom searchFrom
-  from-another zero node n h = refl
-  from-another (suc more) node n h = by (visitNode area segment node) h (λ next. from-another more next (n + 1))
+  from-another zero most node n h = refl
+  from-another (suc more) zero node n h = absurd (omega arith)
+  from-another (suc more) (suc most) node n h = by (visitNode area segment node) h (λ next. from-another more most next (n + 1))
     where
-      by : (v : Visited) → suc more < suc (length (byNext v (visitsFrom area segment (suc more))))
-          → ((next : ℕ) → more < length (visitsFrom area segment (suc more) next) → searchFrom area segment more next (n + 1) ≡ Searched.Refused Refusal.Damaged)
+      by : (v : Visited) → suc more < suc (length (byNext v (visitsFrom area segment most)))
+          → ((next : ℕ) → more < length (visitsFrom area segment most next) → searchFrom area segment more next (n + 1) ≡ Searched.Refused Refusal.Damaged)
           → byVisit v node (n + 1) (λ next. searchFrom area segment more next (n + 1)) ≡ Searched.Refused Refusal.Damaged
       by Visited.Same k on = absurd (omega arith)
       by (Visited.Next next) k on = on next (omega arith)
       by (Visited.Stop link) k on = absurd (omega arith)
+      by Visited.Damaged k on = refl
+
+  from-whole : (more most node : ℕ) → more ≤ most → length (visitsFrom area segment most node) ≤ more → visitsFrom area segment most node ≡ visitsFrom area segment more node
+  unfolding visitsFrom
+  from-whole zero zero node l h = refl
+  from-whole zero (suc most) node l h = absurd (omega arith)
+  from-whole (suc more) zero node l h = absurd (omega arith)
+  from-whole (suc more) (suc most) node l h = ap (λ (rest : List ℕ). node ∷ rest) (by (visitNode area segment node) h (λ next. from-whole more most next (omega arith)))
+    where
+      by : (v : Visited) → suc (length (byNext v (visitsFrom area segment most))) ≤ suc more
+          → ((next : ℕ) → length (visitsFrom area segment most next) ≤ more → visitsFrom area segment most next ≡ visitsFrom area segment more next)
+          → byNext v (visitsFrom area segment most) ≡ byNext v (visitsFrom area segment more)
+      by Visited.Same k on = refl
+      by (Visited.Next next) k on = on next (omega arith)
+      by (Visited.Stop link) k on = refl
       by Visited.Damaged k on = refl
 
   from-tells : (more node n count : ℕ) → n + length (visitsFrom area segment more node) ≡ count → Tells count (searchFrom area segment more node n)
@@ -72,17 +88,28 @@ module _ (area segment : List ℕ) where
         (λ t. bool-cases (eqb first 0) (λ z. rw (e, t, z) (omega arith)) (λ z. rw (e, t, z) (from-bound (nodesMax area) first)))
         (λ t. rw (e, t) (omega arith)))
 
-    -- needing another is 5
-    pub segment-another : nodesMax area < length (visits (suc (nodesMax area)) area segment parent) → segmentSteps area segment parent ≡ Searched.Refused Refusal.Damaged
-    unfolding visits segmentSteps
-    segment-another h =
-        bool-cases (eqb (length segment) 0)
-        (λ e. absurd (omega (arith, rw e at h)))
-        (λ e. bool-cases (nodeOk area parent)
-        (λ t. bool-cases (eqb first 0)
-        (λ z. absurd (omega (arith, rw (e, t, z) at h)))
-        (λ z. rw (e, t, z) (from-another (nodesMax area) first 0 (rw (e, t, z) at h))))
-        (λ t. rw (e, t)))
+    module _ (most : ℕ) where
+      -- needing another is 5
+      pub segment-another : nodesMax area < length (visits most area segment parent) → segmentSteps area segment parent ≡ Searched.Refused Refusal.Damaged
+      unfolding visits segmentSteps
+      segment-another h =
+          bool-cases (eqb (length segment) 0)
+          (λ e. absurd (omega (arith, rw e at h)))
+          (λ e. bool-cases (nodeOk area parent)
+          (λ t. bool-cases (eqb first 0)
+          (λ z. absurd (omega (arith, rw (e, t, z) at h)))
+          (λ z. rw (e, t, z) (from-another (nodesMax area) most first 0 (rw (e, t, z) at h))))
+          (λ t. rw (e, t)))
+
+      -- if not, a wider limit changes nothing
+      pub segment-whole : nodesMax area ≤ most → length (visits most area segment parent) ≤ nodesMax area → visits most area segment parent ≡ visits (nodesMax area) area segment parent
+      unfolding visits
+      segment-whole l h =
+          bool-cases (eqb (length segment) 0)
+          (λ e. rw e)
+          (λ e. bool-cases (nodeOk area parent)
+          (λ t. bool-cases (eqb first 0) (λ z. rw (e, t, z)) (λ z. rw (e, t, z) (from-whole (nodesMax area) most first l (rw (e, t, z) at h))))
+          (λ t. rw (e, t)))
 
     tells : Tells (length (visits (nodesMax area) area segment parent)) (segmentSteps area segment parent)
     unfolding visits segmentSteps

@@ -71,6 +71,16 @@ fn damaged_5() {
     assert_eq!(refused(Area::new(&bytes[..138]).backup(&mut [0])), 5);
 }
 
+/// A node that is its own left: a search that goes left from it compares as many nodes as it may, and is refused.
+#[test]
+fn circle_5() {
+    let mut bytes = with(4_096, &[("b", "q")]);
+    put(&mut bytes, 128 + 112 + 8, 112);
+    assert_eq!(refused(Area::new(&bytes).find("a")), 5);
+    assert_eq!(refused(Area::new(&bytes).check()), 5);
+    assert_eq!(Area::new(&bytes).find("b").map(|found| found.compared), Ok(1));
+}
+
 #[test]
 fn names_are_read_with_care_5() {
     let bytes = second();

@@ -28,6 +28,13 @@ fn the_inverters_settings_show_their_last_update() {
 }
 
 #[test]
+fn no_file_has_more_entries() {
+    let mut bytes = sample("most.area");
+    assert_eq!(Area::new(&bytes).list().unwrap().count(), 526);
+    assert_eq!(AreaMut::new(&mut bytes).add("526", ""), Err(Refusal::NoRoom));
+}
+
+#[test]
 fn the_pulses_fill_their_area() {
     let mut bytes = sample("pulses.area");
     let area = Area::new(&bytes);
