@@ -15,7 +15,7 @@
  *    5  Damaged       the area is damaged: its bytes break a rule
  *    6  TooLong       too long: a value or backup of 92 bytes or more, or a name of over 65,536 on the lookup's input
  *    7  LongEntry     an entry with a long value cannot be updated
- *    8  BadHeader     this is no property area: its length, magic or version is none's; the programs take 65,536 bytes at most
+ *    8  BadHeader     this is no property area: its length, magic or version is not that of one; the programs take 65,536 bytes at most
  *    9  TooLarge      a size does not fit 32 bits
  *   10  ShortBuffer   scratch or list is too short
  * A number returned alone is 0 for accepted, else the refusal. Refusals 1, 2, 3, 8, and every refusal of pa_update, leave every byte.

@@ -28,7 +28,7 @@ fn main() {
     for (name, sum) in FILES {
         let text = read(&source.join(name));
         if checksum(&text) != sum {
-            println!("cargo::warning={name} differs from the text at baa8c490b1 (checksum {:#018x})", checksum(&text));
+            stop(&format!("{name} differs from the text at baa8c490b1 (checksum {:#018x})", checksum(&text)));
         }
     }
     let align = cut_function(&read(&source.join("lib.rs")), "pub(crate) fn bionic_align(");

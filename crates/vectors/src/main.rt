@@ -2,7 +2,7 @@
 //
 // The vectors were written by the oracle (`oracle/vectors`): it runs the published Rust, rsproperties at commit baa8c490b1, compiled unchanged, and
 // writes each step with the Rust's answers and the checksum of the area's bytes after it. The steps are a sample of all families of inputs, mostly on
-// areas of at most 4,096 bytes, with every family, call and refusal that a million calls of the comparison show; then, for each broken twin that the
+// areas of at most 4,096 bytes, with every triple of family, call and refusal that a million calls of the comparison show; then, for each broken twin that the
 // sample does not tell from the Rust, the smallest case that does.
 // The crate replay reads the format. Its contract says that the counts are those of the definitions: no difference here means that the definitions
 // of the calls, and not only this code, give the Rust's answers at every step, and bytes with the checksum of the Rust's.

@@ -23,7 +23,7 @@ const TIMES: usize = 2;
 /// Calls that may be spent on telling one broken twin apart.
 const TELLING: u64 = 300_000;
 
-/// Before a list of steps that was found from a buffer of zeros.
+/// Stands before steps that were found from a buffer of zeros: it zeroes what they use.
 fn clean(brief: bool) -> Op {
     Op::Format { len: if brief { BRIEF_LENGTH } else { 131_072 } }
 }
@@ -143,5 +143,5 @@ pub fn write(twin: Ours, file: &str, seed: u64) -> bool {
     }
     println!("{} of {shown} triples of family, call and refusal", shown - missing.len());
     println!("{} records, {} bytes; they tell {told} of {} broken twins apart", steps.len(), bytes.len(), all().count());
-    fs::write(file, bytes).map_err(|error| println!("{file}: {error}")).is_ok() && missing.is_empty()
+    fs::write(file, bytes).map_err(|error| println!("{file}: {error}")).is_ok() && missing.is_empty() && told == all().count()
 }
