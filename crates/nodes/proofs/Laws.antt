@@ -24,7 +24,7 @@ use Rattle.allocation.specs.Steps.{Step, goes, stopBy, andThen, linkTo}
 use Rattle.allocation.specs.View.{seen, placedStep}
 use Rattle.allocation.specs.Allocate.{allocate}
 use Rattle.nodes.specs.Nodes.{nodeStores, layNode, newNode, hangNode, orHang, addNode, addSegment, addPath}
-use Rattle.nodes.specs.View.{refusalOf}
+use Rattle.trie.specs.View.{refusalOf}
 use Rattle.allocation.proofs.StepLaws.{then-goes, then-through, placed-on, placed-stop}
 use Rattle.allocation.proofs.AllocateLaws.{allocate-room}
 
@@ -89,9 +89,9 @@ module _ (area segment : List ℕ) (first : ℕ) (s : Searched) (e : s ≡ searc
   add-absent link n f t g = rw (← e, f) g
 
   pub add-stop : OneOf (1 ∷ 2 ∷ []) (tagOf the-type s) → OneOf (0 ∷ 2 ∷ []) (tagOf the-type s)
-      → (r : Placed) → r ≡ Placed.Refused (refusalOf s) → placedStep r area ≡ seen (addNode area segment first)
+      → (why : Refusal) → why ≡ refusalOf s → placedStep (Placed.Refused why) area ≡ seen (addNode area segment first)
   unfolding addNode seen
-  add-stop o k r f = rw (f, ← e, stopped area segment s o k)
+  add-stop o k why f = rw (f, ← e, stopped area segment s o k)
 
 -- ---- a segment below a node: first is its children link
 module _ (area segment : List ℕ) (parent : ℕ) where

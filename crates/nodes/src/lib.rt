@@ -5,10 +5,8 @@ ghost use lib.ListN.{length};
 ghost use Rattle.words.specs.Stores.{run};
 ghost use Rattle.names.specs.Names.{segments};
 ghost use Rattle.layout.specs.Layout.{wordSize, wordMax, headerSize, nodeSize, rootAt, Within};
-ghost use Rattle.allocation.specs.declared.Placed.{Placed};
 ghost use Rattle.allocation.specs.View.{seen, placedStep};
 ghost use Rattle.nodes.specs.Nodes.{nodeStores, newNode, hangNode, addNode, addSegment, addPath};
-ghost use Rattle.nodes.specs.View.{refusalOf};
 use allocation::Placed;
 use layout::Header;
 use layout::Node;
@@ -61,23 +59,6 @@ fn hang_node(area: &mut [u8], link: usize, name: &[u8]) -> Placed
     Placed::At(at)
 }
 
-// The refusal of a search that neither names a node nor finds it missing.
-fn refusal(searched: Searched) -> Placed
-    ensures { λ r. ⌜ r ≡ Placed.Refused (refusalOf searched) ⌝ }
-{
-    match searched {
-        Searched::Refused(why) => Placed::Refused(why),
-        Searched::Absent {
-            link: _,
-            compared: _,
-        } => Placed::Refused(Refusal::Missing),
-        Searched::Named {
-            node: _,
-            compared: _,
-        } => Placed::Refused(Refusal::Damaged),
-    }
-}
-
 // The node of a segment, searched for by left and right from a node on; laid down where it is missing.
 fn add_prop_trie_node(area: &mut [u8], first: usize, segment: &[u8]) -> Placed
     ensures { λ r. ⌜ placedStep r (now (area .exit)) ≡ seen (addNode (now (area .entry)) (now (segment .entry)) first) ⌝ }
@@ -85,7 +66,7 @@ fn add_prop_trie_node(area: &mut [u8], first: usize, segment: &[u8]) -> Placed
     let searched = trie::find_prop_trie_node(area, first, segment);
     let Searched::Named { node, compared: _ } = searched else {
         let Searched::Absent { link, compared: _ } = searched else {
-            return refusal(searched);
+            return Placed::Refused(searched.refusal());
         };
         return hang_node(area, link, segment);
     };

@@ -16,8 +16,8 @@ use Rattle.trie.proofs.trie.Searched.{the-type}
 use Rattle.trie.specs.declared.trie.Searched.{Searched}
 use Rattle.trie.specs.Header.{headerOk}
 use Rattle.trie.specs.Trie.{segmentSteps}
+use Rattle.trie.specs.View.{refusalOf}
 use Rattle.property_area.specs.Find.{Hit, hit, countLimit, propSteps, bySearch, findFrom, findSteps}
-use Rattle.property_area.specs.View.{refusedBy}
 
 -- ---- after the last segment: offset is the node's prop
 module _ (area : List ℕ) (node n : ℕ) where
@@ -53,7 +53,7 @@ find-end area segs node n h = rw h
 
 -- ---- a turn of find: s is what the search for the next segment found
 -- a search that names no node: its tag is not the first
-stopped : (s : Searched) → OneOf (1 ∷ 2 ∷ []) (tagOf the-type s) → (on : ℕ → ℕ → Answer Hit) → refusedBy s ≡ bySearch s on
+stopped : (s : Searched) → OneOf (1 ∷ 2 ∷ []) (tagOf the-type s) → (on : ℕ → ℕ → Answer Hit) → refuse (refusalOf s) ≡ bySearch s on
 stopped (Searched.Named m k) o on = absurd (⊎-elim (λ e. omega arith) (λ e. omega arith) o)
 stopped (Searched.Absent l k) o on = refl
 stopped (Searched.Refused why) o on = refl
@@ -66,5 +66,5 @@ module _ (area : List ℕ) (segs : List (List ℕ)) (node n : ℕ) (seg : List �
   pub find-on : (m k : ℕ) → s ≡ Searched.Named m k → findFrom area segs node n ≡ findFrom area rest m ((n + k) % countLimit)
   find-on m k g = turn ∙ rw g
 
-  pub find-stop : OneOf (1 ∷ 2 ∷ []) (tagOf the-type s) → refusedBy s ≡ findFrom area segs node n
+  pub find-stop : OneOf (1 ∷ 2 ∷ []) (tagOf the-type s) → refuse (refusalOf s) ≡ findFrom area segs node n
   find-stop o = stopped s o (λ m k. findFrom area rest m ((n + k) % countLimit)) ∙ sym turn

@@ -1,6 +1,5 @@
 pub mod Find
 pub mod Walked
-pub mod View
 pub mod Value
 pub mod Lookup
 pub mod Backup

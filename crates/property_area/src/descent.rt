@@ -1,7 +1,6 @@
 // Find: the segments of a name, each searched for below the node of the one before.
 ghost use mathlib.Core.Path.{_≡_};
 ghost use Rattle.property_area.specs.Find.{foundAnswer, findSteps, propSteps};
-ghost use Rattle.property_area.specs.View.{refusedBy};
 use layout::Entry;
 use layout::Node;
 use layout::Refusal;
@@ -38,28 +37,11 @@ pub fn find(area: &[u8], name: &[u8]) -> Found
             compared: more,
         } = searched
         else {
-            return refusal(searched);
+            return Found::Refused(searched.refusal());
         };
         node = named;
         compared = std::num::wrapping_add_usize(compared, more);
         cursor = next;
-    }
-}
-
-// The refusal of a search that names no node.
-fn refusal(searched: Searched) -> Found
-    ensures { λ r. ⌜ foundAnswer r ≡ refusedBy searched ⌝ }
-{
-    match searched {
-        Searched::Absent {
-            link: _,
-            compared: _,
-        } => Found::Refused(Refusal::Missing),
-        Searched::Refused(why) => Found::Refused(why),
-        Searched::Named {
-            node: _,
-            compared: _,
-        } => Found::Refused(Refusal::Damaged),
     }
 }
 

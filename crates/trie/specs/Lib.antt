@@ -1,3 +1,4 @@
 pub mod Header
 pub mod Trie
 pub mod Visits
+pub mod View

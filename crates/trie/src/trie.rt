@@ -1,6 +1,7 @@
 // The trie: a node's name, the comparison of a segment with a node, and the search for a segment among a node's children.
 ghost use mathlib.Core.Path.{_≡_};
 ghost use Rattle.layout.specs.Layout.{NodeIn};
+ghost use Rattle.trie.specs.View.{refusalOf};
 ghost use Rattle.trie.specs.Trie.{nodeName, follow, visitNode, nodesMax, searchFrom, segmentSteps};
 use layout::Header;
 use layout::Node;
@@ -63,6 +64,25 @@ pub enum Searched {
     // No such node: the offset of the zero link where it would hang, and how many nodes were compared.
     Absent { link: usize, compared: usize },
     Refused(Refusal),
+}
+
+impl Searched {
+    // The refusal of a search that names no node.
+    pub fn refusal(self) -> Refusal
+        ensures { λ r. ⌜ r ≡ refusalOf self ⌝ }
+    {
+        match self {
+            Searched::Absent {
+                link: _,
+                compared: _,
+            } => Refusal::Missing,
+            Searched::Refused(why) => why,
+            Searched::Named {
+                node: _,
+                compared: _,
+            } => Refusal::Damaged,
+        }
+    }
 }
 
 // How many nodes one segment may be compared with: more prove a cycle.

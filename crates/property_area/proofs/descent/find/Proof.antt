@@ -1,12 +1,13 @@
 -- `find` answers what `findSteps` says. The loop's invariant: find over the whole name is find over the segments before the cursor, from the node
 -- and the count so far. The measure is what is left of the name. Assumes nothing.
 use Prim.Native.Nat.{_+_, _-_}
-use mathlib.Core.Path.{_≡_, sym, _∙_}
+use mathlib.Core.Path.{_≡_, sym, ap, _∙_}
 use native.Mathlib.Omega.{arith}
 use borrow.Author.Tests.{not-true, not-false}
 use denote.Ref.{now}
 use lib.ListN.{length}
 use Rattle.names.proofs.Laws.{segmentsFrom, step-done, step-segment, Stepped}
+use Rattle.layout.specs.Refusals.{refuse}
 use Rattle.property_area.specs.Find.{findSteps, findFrom}
 use Rattle.property_area.proofs.FindLaws.{find-header, find-begin, find-end, find-on, find-stop}
 use borrow.Author.Needs.{needs}
@@ -76,7 +77,7 @@ refusal-requires c κs = search needs
 returns-3 : tie.Need-returns-3 Inv-loop μ-loop
 returns-3 c =
     let s = c .before .before .before .before in
-    c .refusal .ensures
+    ap refuse (c .refusal .ensures)
     ∙ find-stop _ _ _ _ _ _ (stepped s .parts) _ (c .before .before .find-segment .ensures) (c .before .match2 .keys2)
     ∙ sym (s .before .before .before .before .loop .inv)
 
