@@ -10,6 +10,11 @@ MODULE = re.compile(r"Rattle·(\w+?)(?:·\w+)?\.(specs|proofs)\.(.+)")
 WORD = re.compile(r"[^\s(){},;\[\]⌜⌝]+")
 
 
+def lines_of(path):
+    """How many lines of definitions a file has: without imports, comments and blanks."""
+    return sum(1 for line in path.read_text().splitlines() if line.strip() and not line.strip().startswith("--") and not line.startswith("use "))
+
+
 class Item:
     """A definition: its file and name, whether it is public, the words of its statement and those of its body."""
 

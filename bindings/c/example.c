@@ -1,4 +1,4 @@
-/* A property area from C: formats one, adds, updates, finds, checks and lists, and prints every answer.
+/* A property area from C: formats one, adds, updates, finds, checks, lists and dumps, and prints every answer.
  *
  *     tools/archive capi                                  (at the project's top)
  *     cd bindings/c
@@ -13,14 +13,13 @@
 
 enum {
     LENGTH = 4096,
-    HEADER = 128,          /* offsets of entries count from here */
-    ENTRY = 96,            /* an entry's name stands behind so many bytes */
-    PLACES = LENGTH / 100, /* no entry takes less than 100 bytes */
+    ROOT = 128 /* the root node stands behind the header */
 };
 
 static uint8_t area[LENGTH];
-static uint8_t scratch[LENGTH / 4];
-static uint32_t list[PLACES];
+static uint8_t scratch[PA_SCRATCH(LENGTH)];
+static uint32_t list[PA_PLACES(LENGTH)];
+static uint8_t room[PA_ROOM(LENGTH)];
 
 /* A C string as the bytes that the calls take: its zero is no part of a name or a value. */
 static const uint8_t *bytes(const char *text)
@@ -28,94 +27,129 @@ static const uint8_t *bytes(const char *text)
     return (const uint8_t *)text;
 }
 
+/* How a call went: 0, or the refusal's number and sentence. */
+static void say(uint32_t refusal)
+{
+    if (refusal == PA_ACCEPTED)
+        printf("accepted\n");
+    else
+        printf("refused %" PRIu32 ": %s\n", refusal, pa_refusal_text(refusal));
+}
+
 static void add(const char *name, const char *value)
 {
-    uint32_t refusal = pa_add(area, LENGTH, bytes(name), strlen(name), bytes(value), strlen(value));
-    printf("add %s = %s: %" PRIu32 "\n", name, value, refusal);
+    printf("add %s = %s: ", name, value);
+    say(pa_add(area, LENGTH, bytes(name), strlen(name), bytes(value), strlen(value)));
 }
 
 static void update(const char *name, const char *value)
 {
-    uint32_t refusal = pa_update(area, LENGTH, bytes(name), strlen(name), bytes(value), strlen(value));
-    printf("update %s = %s: %" PRIu32 "\n", name, value, refusal);
+    printf("update %s = %s: ", name, value);
+    say(pa_update(area, LENGTH, bytes(name), strlen(name), bytes(value), strlen(value)));
 }
 
-/* The value of the entry at an offset. It is a part of the area and ends with no zero of its own, so that its length goes along. */
-static void show(uint32_t entry)
+/* A name or a value. It is a part of the area and ends with no zero of its own, so that its length goes along. */
+static void show(pa_part part)
 {
-    pa_part part = pa_value(area, LENGTH, entry);
-    if (part.refusal != 0)
-        printf("refused %" PRIu32 "\n", part.refusal);
+    if (part.refusal != PA_ACCEPTED)
+        printf("refused %" PRIu32, part.refusal);
     else
-        printf("[%.*s]\n", (int)part.length, (const char *)area + part.start);
+        printf("[%.*s]", (int)part.length, (const char *)area + part.start);
 }
 
 static void find(const char *name)
 {
     pa_found found = pa_find(area, LENGTH, bytes(name), strlen(name));
-    if (found.refusal != 0) {
-        printf("find %s: refused %" PRIu32 "\n", name, found.refusal);
+    printf("find %s: ", name);
+    if (found.refusal != PA_ACCEPTED) {
+        say(found.refusal);
         return;
     }
-    printf("find %s: entry %" PRIu32 ", %" PRIu64 " nodes compared, value ", name, found.entry, found.compared);
-    show(found.entry);
+    printf("entry %" PRIu32 ", %" PRIu64 " nodes compared, value ", found.entry, found.compared);
+    show(pa_value(area, LENGTH, found.entry));
+    printf("\n");
 }
 
-/* The little-endian word at an entry's first byte. */
-static uint32_t serial(uint32_t entry)
+/* Two updates, counted by the serials before and after them. */
+static void count_updates(uint32_t entry)
 {
-    const uint8_t *at = area + HEADER + entry;
-    return at[0] | (uint32_t)at[1] << 8 | (uint32_t)at[2] << 16 | (uint32_t)at[3] << 24;
+    pa_serial_answer earlier = pa_serial(area, LENGTH, entry);
+    update("ab.c", "34");
+    update("ab.c", "345");
+    update("none", "x");
+    pa_serial_answer later = pa_serial(area, LENGTH, entry);
+    if (earlier.refusal != PA_ACCEPTED || later.refusal != PA_ACCEPTED)
+        return;
+    printf("serial 0x%08" PRIx32 ", then 0x%08" PRIx32, earlier.serial, later.serial);
+    printf(": %" PRIu32 " updates\n", pa_update_distance(earlier.serial, later.serial));
 }
 
-/* Where a listing is accepted the area is sound: behind each entry stands its name, with a zero. */
 static void list_all(void)
 {
-    pa_count all = pa_list(area, LENGTH, scratch, sizeof scratch, list, PLACES);
-    if (all.refusal != 0) {
-        printf("list: refused %" PRIu32 "\n", all.refusal);
+    pa_count all = pa_list(area, LENGTH, scratch, sizeof scratch, list, PA_PLACES(LENGTH));
+    printf("list: ");
+    if (all.refusal != PA_ACCEPTED) {
+        say(all.refusal);
         return;
     }
-    printf("list: %" PRIu32 " entries\n", all.count);
+    printf("%" PRIu32 " entries\n", all.count);
     for (uint32_t i = 0; i < all.count; i++) {
-        printf("[%s]: ", (const char *)area + HEADER + list[i] + ENTRY);
-        show(list[i]);
+        printf("  %" PRIu32 ": ", list[i]);
+        show(pa_name(area, LENGTH, list[i]));
+        printf(" is ");
+        show(pa_value(area, LENGTH, list[i]));
+        printf("\n");
     }
+}
+
+/* The same as text, whatever bytes stand in names and values. */
+static void dump(void)
+{
+    pa_count text = pa_dump(area, LENGTH, scratch, sizeof scratch, list, PA_PLACES(LENGTH), room, sizeof room);
+    printf("dump: ");
+    if (text.refusal != PA_ACCEPTED) {
+        say(text.refusal);
+        return;
+    }
+    printf("%" PRIu32 " bytes\n", text.count);
+    fwrite(room, 1, text.count, stdout);
 }
 
 static void check(void)
 {
-    printf("check: %" PRIu32 "\n", pa_check(area, LENGTH, scratch, sizeof scratch));
+    printf("check: ");
+    say(pa_check(area, LENGTH, scratch, sizeof scratch));
 }
 
 int main(void)
 {
     uint8_t backup[8];
 
-    printf("format: %" PRIu32 "\n", pa_format(area, LENGTH));
+    printf("format: ");
+    say(pa_format(area, LENGTH));
     add("ab.c", "12");
-    add("b", "q");
+    add("b", "q\\r");
     add("b", "taken");
     add("a..b", "x");
     find("ab.c");
     find("ab");
 
     pa_found found = pa_find(area, LENGTH, bytes("ab.c"), 4);
-    if (found.refusal != 0)
+    if (found.refusal != PA_ACCEPTED)
         return 1;
-    uint32_t earlier = serial(found.entry);
-    update("ab.c", "345");
-    update("none", "x");
-    printf("update distance: %" PRIu32 "\n", pa_update_distance(earlier, serial(found.entry)));
-    printf("backup read: %" PRIu32, pa_backup_read(area, LENGTH, backup, 2));
-    printf(", [%.2s]\n", (const char *)backup);
-    printf("raw update: %" PRIu32 "\n", pa_raw_update(area, LENGTH, found.entry, bytes("345"), 3, bytes("6"), 1));
+    count_updates(found.entry);
+    if (pa_backup_read(area, LENGTH, backup, 2) == PA_ACCEPTED)
+        printf("backup: [%.2s]\n", (const char *)backup);
+    printf("raw update: ");
+    say(pa_raw_update(area, LENGTH, found.entry, bytes("345"), 3, bytes("6"), 1));
 
     check();
     list_all();
+    dump();
 
-    area[HEADER] = 1; /* the root has no name */
+    area[ROOT] = 1; /* the root has no name */
     check();
     list_all();
+    dump();
     return 0;
 }

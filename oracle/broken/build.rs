@@ -1,4 +1,4 @@
-//! Writes one module for each edit of edits.txt and walk-edits.txt: the twin's text, or the walk's, with that one place changed. An edit
+//! Writes one module for each edit of edits.txt, entry-edits.txt and walk-edits.txt: the twin's text, or the walk's, with that one place changed. An edit
 //! whose old text does not stand exactly once there stops the build.
 
 #[path = "../build_files.rs"]
@@ -8,10 +8,12 @@ use build_files::{folder, read, stop};
 use std::fs;
 
 fn main() {
-    let twins = mutants("../twin/src/lib.rs", "edits.txt", "m", "Twin", "MUTANTS: &[(&str, &(dyn calls::Side + Sync))]");
+    let twin = "../twin/src/lib.rs";
+    let twins = mutants(twin, "edits.txt", "m", "Twin", "MUTANTS: &[(&str, &(dyn calls::Side + Sync))]");
+    let entries = mutants(twin, "entry-edits.txt", "e", "Twin", "ENTRY_MUTANTS: &[(&str, &(dyn calls::Side + Sync))]");
     let walks =
         mutants("../walk/src/lib.rs", "walk-edits.txt", "w", "Walk::DOCUMENT", "WALKS: &[(&str, &(dyn calls::Audit + Sync))]");
-    fs::write(folder("OUT_DIR").join("mutants.rs"), twins + &walks).unwrap();
+    fs::write(folder("OUT_DIR").join("mutants.rs"), twins + &entries + &walks).unwrap();
 }
 
 /// The modules, and the table of what each holds under `what`.

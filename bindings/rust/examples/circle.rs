@@ -9,17 +9,17 @@ use property_area::{Area, AreaMut, Refusal};
 
 const LENGTHS: [usize; 3] = [32_768, 65_536, 131_072];
 /// Data offset of the first node: behind the root and the backup slot.
-const NODE: usize = 112;
+const NODE: u8 = 112;
 /// Header and the node's namelen and prop: the place of its left link.
-const LEFT: usize = 128 + NODE + 8;
+const LEFT: usize = 128 + NODE as usize + 8;
 
 /// An add whose node takes all the room: it is refused for its entry (4), and the node stays. Then its left link is set.
 fn circle(length: usize) -> Vec<u8> {
     let mut bytes = vec![0; length];
-    let name = vec![b'b'; length - 128 - NODE - 21];
+    let name = vec![b'b'; length - 128 - usize::from(NODE) - 21];
     let refused = AreaMut::format(&mut bytes).and_then(|mut area| area.add(&name, ""));
     assert_eq!(refused, Err(Refusal::NoRoom));
-    bytes[LEFT] = NODE as u8;
+    bytes[LEFT] = NODE;
     bytes
 }
 

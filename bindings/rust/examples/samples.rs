@@ -5,7 +5,7 @@
 //! - `inverter.area`: an inverter's settings, some of them updated, one long.
 //! - `pulses.area`: two meters' energy pulses day by day, each counter added at 0 and updated three times, until the area is full.
 //! - `most.area`: as many entries as the programs can be given: 526 names of three digits, with empty values.
-//! - `settled.area`: the second settled example of document 01.
+//! - `settled.area`: the second settled example (docs/RULES.md, 11.2).
 //! - `large.area`: the same in more bytes than the programs take.
 //! - `damaged.area`: `inverter.area` with the root's children leading to the last bytes, where no node fits.
 

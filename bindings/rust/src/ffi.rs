@@ -1,4 +1,4 @@
-//! The calls of bindings/c/property_area.h over slices: the only module with `unsafe`.
+//! The calls of `bindings/c/property_area.h` over slices: the only module with `unsafe`.
 //!
 //! The archive asks two things of its caller, and every call below gives them:
 //!
@@ -28,6 +28,13 @@ pub struct Part {
     pub length: u64,
 }
 
+/// `pa_serial_answer`.
+#[repr(C)]
+pub struct Serial {
+    pub refusal: u32,
+    pub serial: u32,
+}
+
 /// `pa_count`.
 #[repr(C)]
 pub struct Count {
@@ -43,6 +50,8 @@ extern "C" {
     fn pa_format(area: BytesMut, area_len: usize) -> u32;
     fn pa_find(area: Bytes, area_len: usize, name: Bytes, name_len: usize) -> Found;
     fn pa_value(area: Bytes, area_len: usize, entry: u32) -> Part;
+    fn pa_name(area: Bytes, area_len: usize, entry: u32) -> Part;
+    fn pa_serial(area: Bytes, area_len: usize, entry: u32) -> Serial;
     fn pa_add(area: BytesMut, area_len: usize, name: Bytes, name_len: usize, value: Bytes, value_len: usize) -> u32;
     fn pa_update(area: BytesMut, area_len: usize, name: Bytes, name_len: usize, value: Bytes, value_len: usize) -> u32;
     #[rustfmt::skip]
@@ -58,6 +67,17 @@ extern "C" {
     fn pa_backup_read(area: Bytes, area_len: usize, buffer: BytesMut, buffer_len: usize) -> u32;
     fn pa_check(area: Bytes, area_len: usize, scratch: BytesMut, scratch_len: usize) -> u32;
     fn pa_list(area: Bytes, area_len: usize, scratch: BytesMut, scratch_len: usize, list: *mut u32, places: usize) -> Count;
+    #[rustfmt::skip]
+    fn pa_dump(
+        area: Bytes,
+        area_len: usize,
+        scratch: BytesMut,
+        scratch_len: usize,
+        list: *mut u32,
+        places: usize,
+        room: BytesMut,
+        room_len: usize,
+    ) -> Count;
     fn pa_update_distance(earlier: u32, later: u32) -> u32;
 }
 
@@ -74,6 +94,16 @@ pub fn find(area: &[u8], name: &[u8]) -> Found {
 pub fn value(area: &[u8], entry: u32) -> Part {
     // SAFETY: pointer and length are the slice's own; nothing is written. Any offset is allowed.
     unsafe { pa_value(area.as_ptr(), area.len(), entry) }
+}
+
+pub fn name(area: &[u8], entry: u32) -> Part {
+    // SAFETY: as for `value`.
+    unsafe { pa_name(area.as_ptr(), area.len(), entry) }
+}
+
+pub fn serial(area: &[u8], entry: u32) -> Serial {
+    // SAFETY: as for `value`.
+    unsafe { pa_serial(area.as_ptr(), area.len(), entry) }
 }
 
 pub fn add(area: &mut [u8], name: &[u8], value: &[u8]) -> u32 {
@@ -105,6 +135,13 @@ pub fn list(area: &[u8], scratch: &mut [u8], list: &mut [u32]) -> Count {
     // SAFETY: pointers and lengths are the slices' own, the list's in words and aligned as words are; `scratch` and `list`, which are
     // written, are borrowed apart from each other and from `area`.
     unsafe { pa_list(area.as_ptr(), area.len(), scratch.as_mut_ptr(), scratch.len(), list.as_mut_ptr(), list.len()) }
+}
+
+pub fn dump(area: &[u8], scratch: &mut [u8], list: &mut [u32], room: &mut [u8]) -> Count {
+    let (bytes, work) = ((area.as_ptr(), area.len()), (scratch.as_mut_ptr(), scratch.len()));
+    let (places, text) = ((list.as_mut_ptr(), list.len()), (room.as_mut_ptr(), room.len()));
+    // SAFETY: as for `list`; `room`, which is written, is borrowed apart from the other three.
+    unsafe { pa_dump(bytes.0, bytes.1, work.0, work.1, places.0, places.1, text.0, text.1) }
 }
 
 pub fn update_distance(earlier: u32, later: u32) -> u32 {

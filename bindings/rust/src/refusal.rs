@@ -1,28 +1,46 @@
-//! The numbers of refusal: document 01's table, as in crates/layout/specs/Refusals.antt. Their list is that of the C header.
+//! The numbers of refusal, as in docs/RULES.md and crates/layout/specs/Refusals.antt. Their list is that of the C header.
 
 use std::error::Error;
 use std::fmt;
 
-/// Makes the enum of its rows: number, case, sentence.
+/// A number that is not in the list: what [`Refusal::Other`] holds. Only [`Refusal::from_number`] makes one, so that no number of the list
+/// stands here.
+///
+/// ```compile_fail
+/// let three = property_area::Unlisted(3); // the field is private
+/// ```
+#[derive(Clone, Copy, Debug, PartialEq, Eq, Hash)]
+pub struct Unlisted(u32);
+
+impl Unlisted {
+    /// The number.
+    #[must_use]
+    pub const fn number(self) -> u32 {
+        self.0
+    }
+}
+
+/// Makes the enum of its rows: number, case, sentence; then the sentence of any other number.
 macro_rules! refusals {
-    ($($number:literal $case:ident $sentence:literal)*) => {
+    ($($number:literal $case:ident $sentence:literal)* else $other:literal) => {
         /// Why a call refused. Its [`number`](Refusal::number) is the archive's; it displays as a number and a sentence.
         ///
         /// Refusals 1, 2, 3, 8 and 10, every refusal of [`AreaMut::update`](crate::AreaMut::update), and every refusal of a call on
-        /// [`Area`](crate::Area) leave every byte of the area. What an add that is refused for want of room has linked by then stays.
+        /// [`Area`](crate::Area) leave every byte of the area. What an add that is refused with 4, 5 or 9 has linked by then stays.
         ///
         /// ```
         /// use property_area::Refusal;
         ///
         /// assert_eq!(Refusal::Missing.number(), 3);
         /// assert_eq!(Refusal::Missing.to_string(), "refusal 3: the area has no entry of that name");
+        /// assert_eq!(Refusal::Missing.sentence(), "the area has no entry of that name");
         /// assert_eq!(Refusal::from_number(3), Some(Refusal::Missing));
         /// ```
         #[derive(Clone, Copy, Debug, PartialEq, Eq, Hash)]
         pub enum Refusal {
             $(#[doc = concat!(stringify!($number), ": ", $sentence, ".")] $case,)*
             /// A number that is not in the list. The archive that this was written for gives none; a later one might.
-            Other(u32),
+            Other(Unlisted),
         }
 
         impl Refusal {
@@ -32,7 +50,7 @@ macro_rules! refusals {
                 Some(match number {
                     0 => return None,
                     $($number => Refusal::$case,)*
-                    other => Refusal::Other(other),
+                    other => Refusal::Other(Unlisted(other)),
                 })
             }
 
@@ -41,14 +59,16 @@ macro_rules! refusals {
             pub const fn number(self) -> u32 {
                 match self {
                     $(Refusal::$case => $number,)*
-                    Refusal::Other(number) => number,
+                    Refusal::Other(unlisted) => unlisted.number(),
                 }
             }
 
-            const fn sentence(self) -> &'static str {
+            /// What it means, as a sentence without a full stop.
+            #[must_use]
+            pub const fn sentence(self) -> &'static str {
                 match self {
                     $(Refusal::$case => $sentence,)*
-                    Refusal::Other(_) => "the number is not in the list",
+                    Refusal::Other(_) => $other,
                 }
             }
         }

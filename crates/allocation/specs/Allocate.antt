@@ -1,4 +1,4 @@
--- Allocate (document 01).
+-- Allocate (RULES 3.8).
 use Prim.Native.Nat.{ℕ, _+_}
 use mathlib.Core.Bool.{cond}
 use mathlib.Core.List.{List, [], _∷_}

@@ -10,12 +10,12 @@ use Rattle.words.specs.Words.{part}
 use Rattle.words.proofs.Laws.{bool-cases, clash}
 use Rattle.layout.specs.declared.refusal.Refusal.{Refusal}
 use Rattle.layout.specs.Refusals.{Answer, accepted, refused, refuse, numberOf}
-use Rattle.property_area.specs.declared.values.ValuePart.{ValuePart}
+use Rattle.property_area.specs.declared.values.AreaPart.{AreaPart}
 use Rattle.trie.specs.Header.{headerOk}
 use Rattle.property_area.specs.Find.{Hit, hit, byHit, findSteps}
 use Rattle.property_area.specs.Value.{bytes, partAnswer, valueSteps}
 use Rattle.property_area.specs.Lookup.{lookupSteps}
-use Rattle.property_area.proofs.ValueLaws.{PartIn, accepted-in}
+use Rattle.property_area.proofs.ValueLaws.{PartIn, value-stands, accepted-in}
 use Rattle.texts.specs.Text.{escaped, saying, said, fed, feed}
 use Rattle.answers.specs.Answers.{fileMax, nameMax, fileOk, ending, refusedText, askSteps, answerText}
 use Rattle.answers.specs.Lines.{turned, turnSteps}
@@ -44,7 +44,7 @@ module _ (area name : List ℕ) where
   refuses number from to q = clash cc
 
   hit-in : (found : Answer Hit) (from to : ℕ) → byHit refused (valueSteps area) found ≡ accepted (bytes from to) → PartIn area from to
-  hit-in (accepted (hit at compared)) from to e = accepted-in area at from to e
+  hit-in (accepted (hit at compared)) from to e = accepted-in area at _ (value-stands area at) from to e
   hit-in (refused number) from to e = refuses number from to e
 
   ask-accepted : (from to : ℕ) → askSteps area name ≡ accepted (bytes from to) → PartIn area from to
@@ -56,16 +56,16 @@ module _ (area name : List ℕ) where
       (λ l. refuses _ from to (rw (h, l) at e)))
       (λ h. refuses _ from to (rw h at e))
 
-  module _ (asked : ValuePart) (e : partAnswer asked ≡ askSteps area name) where
-    pub ask-in : (from to : ℕ) → asked ≡ ValuePart.Bytes from to → PartIn area from to
+  module _ (asked : AreaPart) (e : partAnswer asked ≡ askSteps area name) where
+    pub ask-in : (from to : ℕ) → asked ≡ AreaPart.Bytes from to → PartIn area from to
     ask-in from to f = ask-accepted from to (sym e ∙ ap partAnswer f)
 
     -- ---- the line
-    pub answer-shown : (from to : ℕ) → asked ≡ ValuePart.Bytes from to → escaped (part area from to) ++ ending ≡ answerText area name
+    pub answer-shown : (from to : ℕ) → asked ≡ AreaPart.Bytes from to → escaped (part area from to) ++ ending ≡ answerText area name
     unfolding answerText
     answer-shown from to f = rw (← e, f)
 
-    pub answer-refused : (why : Refusal) → asked ≡ ValuePart.Refused why → refusedText (numberOf why) ≡ answerText area name
+    pub answer-refused : (why : Refusal) → asked ≡ AreaPart.Refused why → refusedText (numberOf why) ≡ answerText area name
     unfolding answerText
     answer-refused why f = rw (← e, f)
 

@@ -1,4 +1,4 @@
--- What the programs print (document 01, Settled examples, last paragraphs): what both say, and the lookup's answer to a name.
+-- What the programs print (RULES 8.3 to 8.5): what both say, and the lookup's answer to a name.
 use Prim.Native.Nat.{ℕ, _+_, _*_}
 use mathlib.Core.Bool.{Bool, _&&_}
 use mathlib.Core.List.{List, [], _∷_, _++_}

@@ -1,4 +1,4 @@
--- The lookup's input (document 01, Settled examples, last paragraphs): names one per line, answered as they come in.
+-- The lookup's input (RULES 8.6): names one per line, answered as they come in.
 use Prim.Native.Nat.{ℕ}
 use mathlib.Core.Bool.{true, false, cond}
 use mathlib.Core.List.{List, [], _∷_, _++_}
@@ -8,7 +8,7 @@ use Rattle.names.specs.Names.{onFirst}
 use Rattle.texts.specs.Text.{Said, saying, said, lineFeed, Fed, fed, feed}
 use Rattle.answers.specs.Answers.{answerText}
 
--- ---- an empty line is the empty name; a last line needs no line feed, and nothing after the final line feed is no name
+-- ---- RULES 8.6: an empty line asks for the empty name; the last line may lack its line feed; behind the input's last line feed there is no name
 unfoldable pub namesIn : List ℕ → List (List ℕ)
 namesIn [] = []
 namesIn (b ∷ bs) = cond (eqb b lineFeed) ([] ∷ namesIn bs) (onFirst b (namesIn bs))

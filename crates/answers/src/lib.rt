@@ -7,7 +7,7 @@ ghost use Rattle.texts.specs.Text.{escaped, saying, said};
 ghost use Rattle.answers.specs.Answers.{ending, refusedText, askSteps, answerText};
 ghost use Rattle.answers.specs.Lines.{turned, turnSteps, endSteps};
 use layout::Refusal;
-use property_area::ValuePart;
+use property_area::AreaPart;
 use texts::say;
 use texts::say_escaped;
 use texts::say_number;
@@ -28,17 +28,17 @@ pub fn say_refused(out: &mut [u8], at: usize, why: Refusal) -> usize
 }
 
 // What the lookup shows for a name.
-fn ask(area: &[u8], name: &[u8]) -> ValuePart
+fn ask(area: &[u8], name: &[u8]) -> AreaPart
     ensures { λ r. ⌜ partAnswer r ≡ askSteps (now (area .entry)) (now (name .entry)) ⌝ }
 {
     if FILE_MAX < area.len() {
-        return ValuePart::Refused(Refusal::BadHeader);
+        return AreaPart::Refused(Refusal::BadHeader);
     }
     if !header_ok(area) {
-        return ValuePart::Refused(Refusal::BadHeader);
+        return AreaPart::Refused(Refusal::BadHeader);
     }
     if NAME_MAX < name.len() {
-        return ValuePart::Refused(Refusal::TooLong);
+        return AreaPart::Refused(Refusal::TooLong);
     }
     reader::lookup(area, name)
 }
@@ -55,8 +55,8 @@ pub fn answer(area: &[u8], name: &[u8], out: &mut [u8], at: usize) -> usize
     ensures { λ r. ⌜ saying r (now (out .exit)) ≡ said (now (out .entry)) at (answerText (now (area .entry)) (now (name .entry))) ⌝ }
 {
     match ask(area, name) {
-        ValuePart::Bytes { from, to } => say_value(out, at, &area[from..to]),
-        ValuePart::Refused(why) => say_refused(out, at, why),
+        AreaPart::Bytes { from, to } => say_value(out, at, &area[from..to]),
+        AreaPart::Refused(why) => say_refused(out, at, why),
     }
 }
 

@@ -1,4 +1,4 @@
--- Check and listing (document 01): the answer, and every byte of scratch and list afterwards.
+-- Check and listing (RULES 7.1 to 7.5): the answer, and every byte of scratch and list afterwards.
 use Prim.Native.Nat.{ℕ, _/_}
 use mathlib.Core.Path.{_≡_}
 use mathlib.Core.List.{List}

@@ -1,4 +1,4 @@
--- Add (document 01).
+-- Add (RULES 5.2 to 5.5).
 use Prim.Native.Nat.{ℕ}
 use mathlib.Core.Bool.{Bool, false, cond, _||_}
 use mathlib.Core.List.{List, [], _∷_}
@@ -20,7 +20,7 @@ unfoldable pub anyEmpty : List (List ℕ) → Bool
 anyEmpty [] = false
 anyEmpty (segment ∷ rest) = eqb (length segment) 0 || anyEmpty rest
 
--- any zero byte in the name is 1; then any empty segment is 2
+-- RULES 5.2: zero bytes first (1), empty segments next (2)
 unfoldable pub nameVerdict : List ℕ → Verdict
 nameVerdict name =
     cond (hasZero name) (Verdict.Refused Refusal.ZeroByte)

@@ -1,4 +1,4 @@
--- Formatting (document 01): it zeroes the whole buffer and sets used to 112, magic and version; length outside 240 to 131,072: 8.
+-- Formatting (RULES 5.1): it zeroes the whole buffer and sets used to 112, magic and version; length outside 240 to 131,072: 8.
 use Prim.Native.Nat.{ℕ}
 use mathlib.Core.Bool.{_&&_}
 use mathlib.Core.List.{List, [], _∷_}

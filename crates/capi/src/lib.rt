@@ -2,17 +2,20 @@
 ghost use mathlib.Core.Path.{_≡_};
 ghost use Rattle.layout.specs.Refusals.{leaves};
 ghost use Rattle.property_area.specs.Find.{findSteps};
-ghost use Rattle.property_area.specs.Value.{valueSteps};
+ghost use Rattle.property_area.specs.Value.{partAnswer, valueSteps, nameSteps, serialSteps};
 ghost use Rattle.property_area.specs.Backup.{backupSteps};
 ghost use Rattle.allocation.specs.Steps.{outcome};
 ghost use Rattle.builder.specs.Fresh.{formatSteps};
 ghost use Rattle.builder.specs.Add.{addSteps};
 ghost use Rattle.updates.specs.Update.{updateSteps, rawSteps};
 ghost use Rattle.counters.specs.Distance.{distance};
-ghost use Rattle.capi.specs.Capi.{foundStruct, partStruct, CheckReturns, ListReturns};
+ghost use Rattle.capi.specs.Capi.{foundStruct, partStruct, serialStruct, CheckReturns, ListReturns, DumpReturns};
+ghost use Rattle.capi.specs.View.{PartFits};
 use audit::Listed;
+use dumping::Text;
+use property_area::AreaPart;
+use property_area::EntrySerial;
 use property_area::Found;
-use property_area::ValuePart;
 
 // Refusal 0: found. Where refused the rest is 0.
 #[repr(C)]
@@ -22,7 +25,7 @@ pub struct PaFound {
     pub compared: u64,
 }
 
-// Refusal 0: the value is area[start .. start + length]. Where refused the rest is 0.
+// Refusal 0: the value, or the name, is area[start .. start + length]. Where refused the rest is 0.
 #[repr(C)]
 pub struct PaPart {
     pub refusal: u32,
@@ -30,7 +33,14 @@ pub struct PaPart {
     pub length: u64,
 }
 
-// Refusal 0: so many entries. Where refused the count is 0.
+// Refusal 0: the serial. Where refused it is 0.
+#[repr(C)]
+pub struct PaSerial {
+    pub refusal: u32,
+    pub serial: u32,
+}
+
+// Refusal 0: so many entries, or bytes of text. Where refused the count is 0.
 #[repr(C)]
 pub struct PaCount {
     pub refusal: u32,
@@ -62,20 +72,51 @@ pub extern "C" fn pa_find(area: &[u8], name: &[u8]) -> PaFound
     }
 }
 
-#[no_mangle]
-pub extern "C" fn pa_value(area: &[u8], entry: u32) -> PaPart
-    ensures { λ r. ⌜ r ≡ partStruct (valueSteps (now (area .entry)) entry) ⌝ }
+// The struct of a part.
+fn part_of(place: AreaPart) -> PaPart
+    requires { ⌜ PartFits place ⌝ }
+    ensures { λ r. ⌜ r ≡ partStruct (partAnswer place) ⌝ }
 {
-    match property_area::value(area, entry) {
-        ValuePart::Bytes { from, to } => PaPart {
+    match place {
+        AreaPart::Bytes { from, to } => PaPart {
             refusal: 0,
             start: from as u32,
             length: (to - from) as u64,
         },
-        ValuePart::Refused(why) => PaPart {
+        AreaPart::Refused(why) => PaPart {
             refusal: why.number(),
             start: 0,
             length: 0,
+        },
+    }
+}
+
+#[no_mangle]
+pub extern "C" fn pa_value(area: &[u8], entry: u32) -> PaPart
+    ensures { λ r. ⌜ r ≡ partStruct (valueSteps (now (area .entry)) entry) ⌝ }
+{
+    part_of(property_area::value(area, entry))
+}
+
+#[no_mangle]
+pub extern "C" fn pa_name(area: &[u8], entry: u32) -> PaPart
+    ensures { λ r. ⌜ r ≡ partStruct (nameSteps (now (area .entry)) entry) ⌝ }
+{
+    part_of(property_area::name(area, entry))
+}
+
+#[no_mangle]
+pub extern "C" fn pa_serial(area: &[u8], entry: u32) -> PaSerial
+    ensures { λ r. ⌜ r ≡ serialStruct (serialSteps (now (area .entry)) entry) ⌝ }
+{
+    match property_area::serial(area, entry) {
+        EntrySerial::Word(word) => PaSerial {
+            refusal: 0,
+            serial: word,
+        },
+        EntrySerial::Refused(why) => PaSerial {
+            refusal: why.number(),
+            serial: 0,
         },
     }
 }
@@ -125,6 +166,27 @@ pub extern "C" fn pa_list(area: &[u8], scratch: &mut [u8], list: &mut [u32]) -> 
             count: count as u32,
         },
         Listed::Refused(why) => PaCount {
+            refusal: why.number(),
+            count: 0,
+        },
+    }
+}
+
+#[no_mangle]
+pub extern "C" fn pa_dump(
+    area: &[u8],
+    scratch: &mut [u8],
+    list: &mut [u32],
+    room: &mut [u8],
+) -> PaCount
+    ensures { λ r. ⌜ DumpReturns (now (area .entry)) (now (scratch .entry)) (now (list .entry)) (now (room .entry)) r (now (room .exit)) (now (scratch .exit)) (now (list .exit)) ⌝ }
+{
+    match dumping::dump_into(area, scratch, list, room) {
+        Text::Bytes(size) => PaCount {
+            refusal: 0,
+            count: size as u32,
+        },
+        Text::Refused(why) => PaCount {
             refusal: why.number(),
             count: 0,
         },

@@ -1,4 +1,4 @@
--- Update distance (document 01).
+-- Update distance (RULES 5.10).
 use Prim.Native.Nat.{ℕ, _+_, _-_, _%_}
 use mathlib.Core.List.{List, [], _∷_}
 use Rattle.serials.specs.Serial.{updatedSerial, positions, position}

@@ -1,3 +1,5 @@
+pub mod Counting
+pub mod Filling
 pub mod Laws
-pub mod Reaching
 pub mod Promises
+pub mod Reaching

@@ -1,15 +1,17 @@
--- What the dump prints (document 01, Settled examples, last paragraphs): the text of a listing, or of its refusal.
+-- What the dump prints (RULES 7.6, 8.2 to 8.4): the text of a listing, or of its refusal; and that text in the caller's room.
 use Prim.Native.Nat.{ℕ}
 use mathlib.Core.Path.{_≡_}
 use mathlib.Core.List.{List, [], _∷_, _++_}
 use lib.ListN.{length, take}
 use lib.Dec.{leb}
+use Rattle.words.specs.Words.{put}
 use Rattle.layout.specs.declared.refusal.Refusal.{Refusal}
 use Rattle.layout.specs.Refusals.{Answer, accepted, refused, refuse, guard}
 use Rattle.property_area.specs.Value.{valueSteps, nameSteps, partOrNone}
 use Rattle.audit.specs.Check.{usedOf, Judged, Listing, lists, listSteps}
 use Rattle.texts.specs.Text.{escaped, decimal, Said, saying, said}
 use Rattle.answers.specs.Answers.{fileMax, ending, refusedText}
+use Rattle.dumping.specs.declared.Text.{Text}
 
 -- the texts: "entries ", " used ", "[", "]: [" and "]"
 abbrev pub entriesWord : List ℕ
@@ -61,3 +63,28 @@ dumpSteps area scratch list out judged = dumpListing area out (fileListing area 
 -- of each judgement: the next place, and output, scratch and list afterwards
 abbrev pub DumpSays : (area scratch list out : List ℕ) → ℕ → List ℕ → List ℕ → List ℕ → Type 0
 DumpSays area scratch list out next after left noted = (judged : Judged area) → dumps (saying next after) left noted ≡ dumpSteps area scratch list out judged
+
+-- ---- the dump of any area that listing takes, put at the start of the caller's room: how long it is; and room, scratch and list
+pub data Filled : Type 0 where
+  fills : (answer : Answer ℕ) (room scratch list : List ℕ) → Filled
+
+-- 10 where the room is shorter than the text: it is kept, as by every refusal
+abbrev pub fillText : (text room scratch list : List ℕ) → Filled
+fillText text room scratch list =
+    guard (leb (length text) (length room)) (fills (refuse Refusal.ShortBuffer) room scratch list) (fills (accepted (length text)) (put room 0 text) scratch list)
+
+-- as listing refuses, and scratch and list as it leaves them
+abbrev pub fillListing : List ℕ → List ℕ → Listing → Filled
+fillListing area room (lists (accepted count) scratch list) = fillText (dumpText area (accepted count) list) room scratch list
+fillListing area room (lists (refused number) scratch list) = fills (refused number) room scratch list
+
+abbrev pub fillSteps : (area scratch list room : List ℕ) → Judged area → Filled
+fillSteps area scratch list room judged = fillListing area room (listSteps area scratch list judged)
+
+-- what each case of the answer means
+abbrev pub textAnswer : Text → Answer ℕ
+textAnswer (Text.Bytes size) = accepted size
+textAnswer (Text.Refused why) = refuse why
+
+abbrev pub FillSays : (area scratch list room : List ℕ) → Text → List ℕ → List ℕ → List ℕ → Type 0
+FillSays area scratch list room text after left noted = (judged : Judged area) → fills (textAnswer text) after left noted ≡ fillSteps area scratch list room judged

@@ -1,11 +1,15 @@
-// What the program dump prints, as functions on slices.
+// The dump's text, as functions on slices: for the program dump, and for a room of the caller's.
 ghost use mathlib.Core.Path.{_≡_};
 ghost use Prim.Native.Nat.{_+_, _≤_};
 ghost use lib.ListN.{length};
 ghost use Rattle.layout.specs.Layout.{wordSize, usedField};
+ghost use Rattle.audit.specs.Check.{usedOf};
 ghost use Rattle.texts.specs.Text.{saying, said};
-ghost use Rattle.dumping.specs.Dump.{headText, entryLine, entryLines, DumpSays};
+ghost use Rattle.dumping.specs.Dump.{headText, entryLine, entryLines, DumpSays, FillSays};
 ghost use Rattle.dumping.specs.View.{listingText, FileListSays};
+
+mod sizes;
+
 use answers::FILE_MAX;
 use audit::Listed;
 use layout::Header;
@@ -14,9 +18,12 @@ use texts::say;
 use texts::say_escaped;
 use texts::say_number;
 
-fn say_head(out: &mut [u8], count: usize, used: usize) -> usize
-    ensures { λ r. ⌜ saying r (now (out .exit)) ≡ said (now (out .entry)) 0 (headText count used) ⌝ }
+// The first line of an area with so many entries.
+fn say_head(area: &[u8], count: usize, out: &mut [u8]) -> usize
+    requires { ⌜ usedField + wordSize ≤ length (now area) ⌝ }
+    ensures { λ r. ⌜ saying r (now (out .exit)) ≡ said (now (out .entry)) 0 (headText count (usedOf (now (area .entry)))) ⌝ }
 {
+    let used = words::word(area, Header::USED) as usize;
     let told = say(out, 0, b"entries ");
     let counted = say_number(out, told, count);
     let between = say(out, counted, b" used ");
@@ -53,8 +60,7 @@ fn say_listing(area: &[u8], offsets: &[u32], out: &mut [u8]) -> usize
     requires { ⌜ usedField + wordSize ≤ length (now area) ⌝ }
     ensures { λ r. ⌜ saying r (now (out .exit)) ≡ said (now (out .entry)) 0 (listingText (now (area .entry)) (now (offsets .entry))) ⌝ }
 {
-    let used = words::word(area, Header::USED) as usize;
-    let told = say_head(out, offsets.len(), used);
+    let told = say_head(area, offsets.len(), out);
     say_entries(area, offsets, out, told)
 }
 
@@ -75,5 +81,28 @@ pub fn dump(area: &[u8], scratch: &mut [u8], list: &mut [u32], out: &mut [u8]) -
     match list_file(area, scratch, list) {
         Listed::Entries(count) => say_listing(area, &list[..count], out),
         Listed::Refused(why) => answers::say_refused(out, 0, why),
+    }
+}
+
+pub enum Text {
+    // So many bytes, at the start of the room.
+    Bytes(usize),
+    Refused(Refusal),
+}
+
+// Puts the dump of an area of any length at the start of the room, if it fits. Scratch and list as for listing.
+pub fn dump_into(area: &[u8], scratch: &mut [u8], list: &mut [u32], room: &mut [u8]) -> Text
+    ensures { λ r. ⌜ FillSays (now (area .entry)) (now (scratch .entry)) (now (list .entry)) (now (room .entry)) r (now (room .exit)) (now (scratch .exit)) (now (list .exit)) ⌝ }
+{
+    match audit::list(area, scratch, list) {
+        Listed::Entries(count) => {
+            let offsets = &list[..count];
+            if room.len() < sizes::listing_size(area, offsets) {
+                return Text::Refused(Refusal::ShortBuffer);
+            }
+            let told = say_listing(area, offsets, room);
+            Text::Bytes(told)
+        }
+        Listed::Refused(why) => Text::Refused(why),
     }
 }

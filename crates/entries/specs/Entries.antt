@@ -1,4 +1,4 @@
--- Add (document 01), the entry: allocated, then a long value allocated and written, then touched and written, then its name, then prop.
+-- Add (RULES 5.4, 5.5), the entry: allocated, then a long value allocated and written, then touched and written, then its name, then prop.
 use Prim.Native.Nat.{ℕ, _+_, _-_}
 use mathlib.Core.Bool.{cond}
 use mathlib.Core.List.{List, [], _++_}
@@ -12,7 +12,7 @@ use Rattle.property_info.specs.Written.{shortStores, longStores}
 use Rattle.allocation.specs.Steps.{Step, goes, stopBy, andThen, linkTo}
 use Rattle.allocation.specs.Allocate.{allocate}
 
--- the entry is touched (5), its serial and value or message and relative offset are written, then its name
+-- RULES 5.5: the entry, touched (5); then its stores, and those of its name
 unfoldable pub layEntry : List ℕ → List ℕ → ℕ → List Store → Step
 layEntry area name at stores =
     guard (entryOk area at) (stopBy area Refusal.Damaged) (goes at (run area (stores ++ textStores (placeOf at entrySize) name)) [])

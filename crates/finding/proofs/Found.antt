@@ -1,7 +1,7 @@
--- An entry of a sound area's tree is listed, is found by its name, and shows its value; what is found is such an entry.
+-- An entry of a sound area's tree is listed, is found by its name, and shows its value, its name and its serial; what is found is such an entry.
 use Prim.Native.Nat.{ℕ, _+_}
 use native.Mathlib.Omega.{arith}
-use mathlib.Core.Path.{_≡_, refl, sym, _∙_}
+use mathlib.Core.Path.{_≡_, refl, sym, ap, _∙_}
 use mathlib.Core.List.{List, [], _∷_, _++_}
 use lib.ListN.{length, length-append, List·getD-append}
 use lib.Seq.{getD-append-add}
@@ -9,7 +9,8 @@ use Rattle.words.proofs.Laws.{clash}
 use Rattle.names.specs.Names.{segments}
 use Rattle.layout.specs.Refusals.{accepted}
 use Rattle.property_area.specs.Find.{hit, findSteps}
-use Rattle.property_area.specs.Value.{bytes, valueSteps, nameSteps, partOrNone}
+use Rattle.property_area.specs.Value.{bytes, valueSteps, nameSteps, partOrNone, serialSteps}
+use Rattle.property_area.proofs.ValueLaws.{touch-read}
 use Rattle.property_info.specs.Entry.{nameOf, valueOf}
 use Rattle.sound.specs.Tree.{Value, bare, entry, Tree, leaf, node, listedOwn, listed}
 use Rattle.sound.specs.Sound.{Has, Sound}
@@ -76,3 +77,10 @@ module _ (area : List ℕ) (used : ℕ) (tree : Tree) (sound : Sound area used t
       let stands = stands-reached way area used [] tree (stands-whole area used tree sound) in
       let read = own-reads area used (stands .0) (reached tree way) at serial name value (stands .1) is in
       part-shown area at (nameOf area at) name (sound .front .header) (read .0) (read .2)
+
+  -- ---- and its serial is the tree's
+  pub serial-shown : (way : List Dir) (at serial : ℕ) (name : List ℕ) (value : Value) → ownOf (reached tree way) ≡ entry at serial name value → serialSteps area at ≡ accepted serial
+  serial-shown way at serial name value is =
+      let stands = stands-reached way area used [] tree (stands-whole area used tree sound) in
+      let read = own-reads area used (stands .0) (reached tree way) at serial name value (stands .1) is in
+      sym (touch-read area at _ (sound .front .header) (read .0) (accepted serial) (ap accepted (sym (read .3))))

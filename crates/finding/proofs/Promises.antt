@@ -1,4 +1,4 @@
--- What find and value promise in a sound area, over its tree: find is the tree's search, so each entry is found by its own name,
+-- What find, value, name and serial promise in a sound area, over its tree: find is the tree's search, so each entry is found by its own name,
 -- nothing else is found, little is compared and read, and no answer tells of damage. The proofs stand in FindLook, Refusing, Reading and Found.
 use Prim.Native.Nat.{ℕ, _-_, _*_, _≤_}
 use native.Mathlib.Omega.{arith}
@@ -14,7 +14,7 @@ use Rattle.trie.proofs.HeaderLaws.{header-max}
 use Rattle.property_area.specs.Find.{hit, findSteps}
 use Rattle.property_area.specs.Walked.{walked}
 use Rattle.property_area.proofs.Promises.{find-counted}
-use Rattle.property_area.specs.Value.{bytes, valueSteps, nameSteps, partOrNone}
+use Rattle.property_area.specs.Value.{bytes, valueSteps, nameSteps, partOrNone, serialSteps}
 use Rattle.sound.specs.Tree.{Value, bare, entry, Tree, listed, inside}
 use Rattle.sound.specs.Sound.{Has, Sound}
 use Rattle.sound.specs.Ways.{Dir, reached}
@@ -77,3 +77,7 @@ module _ (area : List ℕ) (used : ℕ) (tree : Tree) (sound : Sound area used t
   pub name-shown : (way : List Dir) (at serial : ℕ) (name : List ℕ) (value : Value) → ownOf (reached tree way) ≡ entry at serial name value
       → (from : ℕ) × (to : ℕ) × (nameSteps area at ≡ accepted (bytes from to)) × (partOrNone area (nameSteps area at) ≡ name)
   name-shown = found.name-shown area used tree sound
+
+  -- ---- and its serial is the tree's
+  pub serial-shown : (way : List Dir) (at serial : ℕ) (name : List ℕ) (value : Value) → ownOf (reached tree way) ≡ entry at serial name value → serialSteps area at ≡ accepted serial
+  serial-shown = found.serial-shown area used tree sound

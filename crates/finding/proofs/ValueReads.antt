@@ -1,4 +1,4 @@
--- The name and the value of an entry in a sound area, read from the bytes, are the tree's.
+-- The name, the value and the serial of an entry in a sound area, read from the bytes, are the tree's.
 use Prim.Native.Nat.{ℕ, zero, suc, _+_, _-_, _/_, _%_, _≤_}
 use native.Mathlib.Nat.{add-zero, add-assoc}
 use native.Mathlib.Omega.{arith}
@@ -108,9 +108,10 @@ module _ (area : List ℕ) (used : ℕ) (low : firstFree ≤ used) (high : used 
         let reads = long-reads far text (holds .0) (holds .1) (rule .2) (rule .3) (fits .1) in
         record { from = reads .from; to = reads .to; is = sym (value-long area at (long-is area at serial word (rule .0))) ∙ reads .is; bytes = reads .bytes }
 
--- ---- the entry of the top node of a subtree: it can be touched, and its value and its name are read
+-- ---- the entry of the top node of a subtree: it can be touched, and its value, its name and its serial are read
 pub own-reads : (area : List ℕ) (used : ℕ) (prefix : List ℕ) (tree : Tree) (at serial : ℕ) (name : List ℕ) (value : Value) → Standing area used prefix tree
-    → ownOf tree ≡ entry at serial name value → (entryOk area at ≡ true) × Reads area (valueOf area at) (valueText value) × Reads area (nameOf area at) name
+    → ownOf tree ≡ entry at serial name value
+    → (entryOk area at ≡ true) × Reads area (valueOf area at) (valueText value) × Reads area (nameOf area at) name × (wordAt area at serialField ≡ serial)
 unfolding TreeAt TreeRule EntryAt EntryRule entryCover
 own-reads area used prefix leaf at serial name value stands is = clash cc
 own-reads area used prefix (node place segment own left below right) at serial name value stands is =
@@ -122,4 +123,5 @@ own-reads area used prefix (node place segment own left below right) at serial n
       own-touched area used (prefix ++ segment) (entry at serial name value) (stands .low) (stands .high) within rule .1,
       value-reads area used (stands .low) (stands .high) at serial name lies (holds .1) whole value (holds .0) (holds .2) (rule .2) (λ i. omega (arith, within i)),
       name-part area used (stands .low) (stands .high) at serial name lies (holds .1) whole,
+      holds .0,
     )

@@ -6,8 +6,6 @@ use mathlib.Core.Path.{_≡_, refl, sym, ap, _∙_}
 use mathlib.Core.Logic.{_≢_}
 use mathlib.Core.List.{List, [], _∷_, _++_, append-nil}
 use lib.ListN.{length, length-append}
-use Rattle.words.specs.Words.{upToZero}
-use Rattle.finding.specs.Look.{valueText}
 use Rattle.names.specs.Names.{segments}
 use Rattle.layout.specs.declared.refusal.Refusal.{Refusal}
 use Rattle.layout.specs.declared.refusal.Verdict.{Verdict}
@@ -31,7 +29,7 @@ use Rattle.history.proofs.Stood.{atRoot, above}
 use Rattle.history.proofs.Hung.{hung-seek, hung-keeps}
 use Rattle.history.proofs.Missing.{missing-stood, missing-bare}
 use Rattle.history.proofs.AddPath.{Went, Halted, path-goes, path-halts, NodeThere, stood-node}
-use Rattle.history.proofs.EntryAdded.{EntryAdded, kept, added, noEntry, noValue, needs-least, needs-short, laid-shows}
+use Rattle.history.proofs.EntryAdded.{EntryAdded, kept, added, noEntry, noValue, needs-least, needs-short, Laid}
 use Rattle.history.proofs.AddEntry.{add-entry}
 use Rattle.history.proofs.Naming.{all-named, segments-some}
 
@@ -49,9 +47,9 @@ pub data AddDone (area : List ℕ) (used : ℕ) (tree : Tree) (name value : List
   -- it has an entry already
   stays : (at : ℕ) (b rooms : List ℕ) (grown : ℕ) (now : Tree) (serial : ℕ) (v : Value) → nameVerdict name ≡ Verdict.Accepted → used + lacks tree name value ≤ dataSize area
       → step ≡ goes at b rooms → total rooms ≡ lacks tree name value → entryOf tree name ≡ entry at serial name v → Sound b grown now → Alike tree now → AddDone area used tree name value step
-  -- it has one now, which shows the value
+  -- it has one now, just laid: it shows the value
   adds : (at : ℕ) (b rooms : List ℕ) (grown : ℕ) (now : Tree) (serial : ℕ) (v : Value) → nameVerdict name ≡ Verdict.Accepted → used + lacks tree name value ≤ dataSize area
-      → step ≡ goes at b rooms → total rooms ≡ lacks tree name value → entryOf tree name ≡ bare → Sound b grown now → entryOf now name ≡ entry at serial name v → valueText v ≡ upToZero value
+      → step ≡ goes at b rooms → total rooms ≡ lacks tree name value → entryOf tree name ≡ bare → Sound b grown now → entryOf now name ≡ entry at serial name v → Laid at name value serial v
       → ((other : List ℕ) → other ≢ name → entryOf now other ≡ entryOf tree other) → AddDone area used tree name value step
 
 lacks-bare : (tree : Tree) (name value : List ℕ) → entryOf tree name ≡ bare → lacks tree name value ≡ missing (segments name) tree + entryNeeds name value
@@ -156,7 +154,7 @@ module _ (area : List ℕ) (used : ℕ) (tree : Tree) (sound : Sound area used t
           (total-append (W .rooms) (entryRooms name value) ∙ sums ∙ sym (lacks-bare tree name value (has ∙ own))) (has ∙ own) S
           (ap (λ (n : List ℕ). seek (segments n) bare (plug (W .now) (there .way) (node (W .at) (there .name) new (there .left) (there .below) (there .right)))) whole
           ∙ finds-new (W .at) (there .name) (there .own) (there .left) (there .below) (there .right) (there .way) (W .now) (there .there) (W .sound .rule) new)
-          (laid-shows (used + total (W .rooms)) name value serial v laid)
+          laid
           (λ other differs. finds-others (W .at) (there .name) (there .own) (there .left) (there .below) (there .right) (there .way) (W .now) (there .there) (W .sound .rule) new other
           (λ e. differs (e ∙ sym whole)) ∙ same (segments other) bare)
       by (noEntry own over is) =

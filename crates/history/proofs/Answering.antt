@@ -15,7 +15,7 @@ use Rattle.layout.specs.Layout.{formatMin, areaMax, entrySize, slotSize, backup
 use Rattle.layout.specs.Refusals.{Answer, accepted, refused, numberOf, noRefusal, numberIn}
 use Rattle.layout.proofs.Promises.{touch-yes, touch-says}
 use Rattle.property_area.specs.Find.{Hit, hit, byHit, findSteps}
-use Rattle.property_area.specs.Value.{valueSteps, nameSteps}
+use Rattle.property_area.specs.Value.{valueSteps, nameSteps, serialSteps}
 use Rattle.property_area.specs.Lookup.{lookupSteps}
 use Rattle.property_area.specs.Backup.{backupSteps}
 use Rattle.property_area.proofs.Promises.{found-ok}
@@ -25,9 +25,10 @@ use Rattle.builder.specs.Fresh.{formatSteps}
 use Rattle.updates.specs.Update.{valueVerdict, backupPastArea, backupStores, rawEntry, rawSteps}
 use Rattle.sound.specs.Tree.{Tree, listed}
 use Rattle.sound.specs.Sound.{Sound}
-use Rattle.finding.proofs.Promises.{find-refusals, found-own, value-shown, name-shown}
-use Rattle.audit.specs.Check.{Judged, sound, unsound, scratchMin, surveySteps, checkSteps, listSteps}
-use Rattle.history.specs.Calls.{answerNumber, listingNumber, Answers, byFormat, byCall, byFind, byLookup, byValue, byName, byRaw, byBackup, byCheck, byList, Undamaged}
+use Rattle.finding.proofs.Promises.{find-refusals, found-own, value-shown, name-shown, serial-shown}
+use Rattle.audit.specs.Check.{Judged, sound, unsound, scratchMin, surveySteps, checkSteps, Listing, lists, listSteps}
+use Rattle.dumping.specs.Dump.{dumpText, fillListing, fillSteps}
+use Rattle.history.specs.Calls.{answerNumber, listingNumber, filledNumber, Answers, byFormat, byCall, byFind, byLookup, byValue, byName, bySerial, byRaw, byBackup, byCheck, byList, byDump, Undamaged}
 use Rattle.history.proofs.Undamaged.{undamaged, found-mild}
 use Rattle.history.proofs.Next.{next}
 use Rattle.history.proofs.Telling.{by-mark}
@@ -69,6 +70,11 @@ module _ (area : List ℕ) (used : ℕ) (tree : Tree) (whole : Sound area used t
         let own = found-own area used tree whole name at count found in
         let named = name-shown area used tree whole (own .0) at (own .1) name (own .2) (own .3) in
         rw (named .2) accepted-whole
+
+    serial-whole : Undamaged (answerNumber (serialSteps area at))
+    serial-whole =
+        let own = found-own area used tree whole name at count found in
+        rw (serial-shown area used tree whole (own .0) at (own .1) name (own .2) (own .3)) accepted-whole
 
     raw-whole : (backup value : List ℕ) → Undamaged (numberIn (rawSteps area at backup value))
     unfolding rawSteps rawEntry valueVerdict
@@ -129,6 +135,14 @@ module _ (area : List ℕ) (used : ℕ) (tree : Tree) (whole : Sound area used t
       (λ t. rw (whole .front .header, t) short-whole)
   list-whole scratch list (unsound none) = absurd (none tree (by-mark area used tree whole))
 
+  dump-whole : (scratch list room : List ℕ) (judged : Judged area) → Undamaged (filledNumber (fillSteps area scratch list room judged))
+  dump-whole scratch list room judged = by (listSteps area scratch list judged) (list-whole scratch list judged)
+    where
+      by : (l : Listing) → Undamaged (listingNumber l) → Undamaged (filledNumber (fillListing area room l))
+      by (lists (accepted count) left noted) fine =
+          bool-cases (leb (length (dumpText area (accepted count) noted)) (length room)) (λ t. rw t accepted-whole) (λ t. rw t short-whole)
+      by (lists (refused number) left noted) fine = fine
+
   pub all-whole : (number : ℕ) → Answers area number → Undamaged number
   all-whole number byFormat = format-whole
   all-whole number (byCall op) = next area used tree whole op .whole
@@ -136,7 +150,9 @@ module _ (area : List ℕ) (used : ℕ) (tree : Tree) (whole : Sound area used t
   all-whole number (byLookup name) = lookup-whole name
   all-whole number (byValue name at count found) = value-whole name at count found
   all-whole number (byName name at count found) = name-whole name at count found
+  all-whole number (bySerial name at count found) = serial-whole name at count found
   all-whole number (byRaw name at count found backup value) = raw-whole name at count found backup value
   all-whole number (byBackup buffer) = backup-whole buffer
   all-whole number (byCheck scratch judged) = check-whole scratch judged
   all-whole number (byList scratch list judged) = list-whole scratch list judged
+  all-whole number (byDump scratch list room judged) = dump-whole scratch list room judged

@@ -7,44 +7,42 @@ use mathlib.Core.Logic.{_⊎_, inl, inr}
 use mathlib.Core.List.{List, [], _∷_, _++_}
 use lib.ListN.{length, getD, length-append, List·getD-append}
 use lib.Seq.{getD-append-add}
+use Rattle.words.proofs.Laws.{clash}
 use Rattle.names.specs.Names.{segments}
 use Rattle.layout.specs.Layout.{serialField, wordAt}
-use Rattle.layout.specs.Refusals.{accepted}
+use Rattle.layout.specs.Refusals.{Answer, accepted}
 use Rattle.property_area.specs.Find.{hit, findSteps}
+use Rattle.property_area.specs.Value.{serialSteps}
+use Rattle.property_area.proofs.ValueLaws.{touch-every}
 use Rattle.sound.specs.Tree.{Value, Entry, bare, entry, Tree, leaf, node, listedOwn, listed}
-use Rattle.sound.specs.Sound.{EntryAt, TreeAt, Has, Sound}
+use Rattle.sound.specs.Sound.{Has, Sound}
 use Rattle.sound.specs.Ways.{Dir, toLeft, toBelow, toRight, toward, reached}
-use Rattle.growth.proofs.Focus.{reached-at}
-use Rattle.growth.proofs.SoundPut.{topPlace}
 use Rattle.finding.proofs.FindLook.{find-look}
 use Rattle.finding.proofs.Spelling.{ownOf}
-use Rattle.finding.proofs.Promises.{own-found, own-listed}
+use Rattle.finding.proofs.Promises.{own-found, own-listed, serial-shown}
 use Rattle.history.specs.Lack.{entryOf}
 use Rattle.history.proofs.Seeking.{seek-found}
 use Rattle.history.proofs.Leading.{Leads, seek-leads, seek-name}
 use Rattle.finding.proofs.Spelling.{one-name}
 
--- the serial of a node's entry stands in the area
-node-serial : (area : List ℕ) (tree : Tree) (at place serial : ℕ) (segment name : List ℕ) (v : Value) (left below right : Tree) → TreeAt area tree
-    → tree ≡ node place segment (entry at serial name v) left below right → wordAt area at serialField ≡ serial
-unfolding TreeAt EntryAt
-node-serial area tree at place serial segment name v left below right h e = (subst (λ (t : Tree). TreeAt area t) e h) .1 .0
+-- a serial that is read is the word there
+pub serial-word : (area : List ℕ) (at serial : ℕ) → serialSteps area at ≡ accepted serial → wordAt area at serialField ≡ serial
+serial-word area at serial =
+    touch-every area at (accepted (wordAt area at serialField)) (λ (a : Answer ℕ). a ≡ accepted serial → wordAt area at serialField ≡ serial) (λ why e. clash cc) (λ h t e. cc)
 
 module _ (area : List ℕ) (used : ℕ) (tree : Tree) (sound : Sound area used tree) (name : List ℕ) where
   module _ (at serial : ℕ) (full : List ℕ) (v : Value) (has : entryOf tree name ≡ entry at serial full v) where
     leads : Leads tree (segments name) (entry at serial full v)
     leads = seek-leads at serial full v (segments name) tree has
 
-    pub serial-read : wordAt area at serialField ≡ serial
-    serial-read =
-        node-serial area (reached tree (leads .way)) at (leads .at) serial (leads .name) full v (leads .left) (leads .below) (leads .right)
-        (reached-at area (leads .way) topPlace tree (sound .top) (sound .bytes) .1) (leads .is)
-
     pub full-is : full ≡ name
     full-is = one-name full name (seek-name at serial full v (segments name) tree (sound .rule) has)
 
     own-is : ownOf (reached tree (leads .way)) ≡ entry at serial full v
     own-is = ap ownOf (leads .is)
+
+    pub entry-serial : serialSteps area at ≡ accepted serial
+    entry-serial = serial-shown area used tree sound (leads .way) at serial full v own-is
 
     pub entry-found : (count : ℕ) × (findSteps area name ≡ accepted (hit at count))
     entry-found = subst (λ (n : List ℕ). (count : ℕ) × (findSteps area n ≡ accepted (hit at count))) full-is (own-found area used tree sound (leads .way) at serial full v own-is)

@@ -2,8 +2,10 @@
 use Prim.Native.Nat.{ℕ, _+_, _*_, _≤_, _<_}
 use native.Mathlib.Omega.{arith}
 use mathlib.Core.Path.{_≡_}
+use mathlib.Core.Bool.{cond}
 use mathlib.Core.List.{List, [], _∷_}
 use lib.ListN.{length}
+use lib.Dec.{ltb}
 use borrow.Author.Tests.{lt-ltb, le-ltb}
 use Rattle.words.specs.Words.{upToZero}
 use Rattle.finding.specs.Look.{valueText}
@@ -63,3 +65,9 @@ pub laid-shows : (at : ℕ) (name value : List ℕ) (serial : ℕ) (v : Value) �
 unfolding Laid valueText
 laid-shows at name value serial (short slot) h = h .2
 laid-shows at name value serial (long far text) h = h .3
+
+-- ---- and its serial is by its value's length
+pub laid-serial : (at : ℕ) (name value : List ℕ) (serial : ℕ) (v : Value) → Laid at name value serial v → serial ≡ cond (ltb (length value) slotSize) (shortSerial (length value)) longSerial
+unfolding Laid
+laid-serial at name value serial (short slot) h = rw (lt-ltb (length value) slotSize (h .0)) (h .1)
+laid-serial at name value serial (long far text) h = rw (le-ltb (length value) slotSize (h .0)) (h .1)

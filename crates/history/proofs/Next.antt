@@ -33,6 +33,7 @@ use Rattle.history.proofs.Rooms.{fullNumber, full-number}
 use Rattle.history.proofs.Undamaged.{Mild, undamaged, not-accepted, room-mild, found-mild}
 use Rattle.history.proofs.Leading.{finds-own, finds-new, finds-others}
 use Rattle.history.proofs.Naming.{verdict-refused}
+use Rattle.history.proofs.EntryAdded.{laid-shows}
 use Rattle.history.proofs.AddSound.{AddDone, badName, noRoom, stays, adds, add-sound}
 use Rattle.history.proofs.UpdateSound.{Stands, UpdateDone, unfound, longEntry, tooLong, done, update-sound}
 
@@ -145,9 +146,9 @@ module _ (area : List ℕ) (used : ℕ) (tree : Tree) (sound : Sound area used t
       next-accepted area used tree (add name value) b (is-of _ is) grown now S (marked _ is b grown now refl S) (λ other d. same (segments other) bare)
       (λ before m. subst (λ (x : Entry). Matches x (hear (add name value) before)) (sym (same (segments name) bare)) (hears-kept (entryOf tree name) at serial v before has m))
       (lasts-same (entryOf tree name) (entryOf now name) (same (segments name) bare))
-  by-add (adds at b rooms grown now serial v e fits is sum has S new shown others) =
+  by-add (adds at b rooms grown now serial v e fits is sum has S new laid others) =
       next-accepted area used tree (add name value) b (is-of _ is) grown now S (marked _ is b grown now refl S) others
-      (λ before m. hears-new (entryOf tree name) (entryOf now name) at serial v before has new shown m)
+      (λ before m. hears-new (entryOf tree name) (entryOf now name) at serial v before has new (laid-shows at name value serial v laid) m)
       (record { lasts = λ far s full w h. absurd (let q : bare ≡ entry far s full w = sym has ∙ h in clash cc) })
 
   pub next-add : Next area used tree (add name value)

@@ -3,9 +3,9 @@ use Prim.Native.Nat.{ℕ, _+_, _≤_, _<_}
 use native.Mathlib.Omega.{arith}
 use mathlib.Core.Path.{_≡_, refl, sym, ap, subst, _∙_}
 use mathlib.Core.Logic.{_≢_, _⊎_}
-use mathlib.Core.Bool.{false}
+use mathlib.Core.Bool.{false, cond}
 use mathlib.Core.List.{List}
-use lib.Dec.{eqb}
+use lib.Dec.{eqb, ltb}
 use lib.ListN.{length}
 use Rattle.words.specs.Words.{sameBytes}
 use Rattle.words.proofs.Laws.{bool-cases, clash}
@@ -16,7 +16,9 @@ use Rattle.layout.specs.declared.refusal.Verdict.{Verdict}
 use Rattle.layout.specs.Layout.{wordMax, slotSize, dataSize}
 use Rattle.layout.specs.Refusals.{accepted, refused, numberOf, noRefusal, numberIn, bytesIn}
 use Rattle.layout.proofs.Numbers.{number-some}
-use Rattle.property_area.specs.Find.{hit}
+use Rattle.property_area.specs.Find.{hit, findSteps}
+use Rattle.property_area.specs.Value.{serialSteps}
+use Rattle.serials.specs.Serial.{longSerial, shortSerial}
 use Rattle.allocation.specs.Steps.{Step, stops, outcome, total}
 use Rattle.builder.specs.Add.{nameVerdict, addSteps}
 use Rattle.updates.specs.Update.{updateSteps}
@@ -27,12 +29,13 @@ use Rattle.history.specs.History.{Op, add, update, call, opName, heeded,
 use Rattle.history.specs.Lack.{seek, entryOf, lacks}
 use Rattle.history.specs.Stays.{Stays}
 use Rattle.finding.proofs.Promises.{find-refusals}
-use Rattle.history.proofs.Rooms.{fullNumber, which-number}
-use Rattle.history.proofs.Undamaged.{Mild, found-mild}
+use Rattle.history.proofs.Rooms.{fullNumber, full-number, which-number}
+use Rattle.history.proofs.Undamaged.{Mild, room-mild, found-mild}
 use Rattle.history.proofs.Leading.{finds-own}
+use Rattle.history.proofs.EntryAdded.{laid-serial}
 use Rattle.history.proofs.AddSound.{AddDone, badName, noRoom, stays, adds, add-sound}
 use Rattle.history.proofs.UpdateSound.{Stands, UpdateDone, unfound, longEntry, tooLong, done, update-sound}
-use Rattle.history.proofs.Entries.{entry-found}
+use Rattle.history.proofs.Entries.{entry-serial, entry-found}
 use Rattle.history.proofs.Next.{moved, next}
 use Rattle.history.proofs.Run.{matched-shows, shown-matches}
 
@@ -45,7 +48,7 @@ module _ (area : List ℕ) (used : ℕ) (tree : Tree) (sound : Sound area used t
       by (badName why e is) = absurd (let q : Verdict.Accepted ≡ Verdict.Refused why = sym named ∙ e in clash cc)
       by (noRoom wanted b rooms grown now e over within is S same left) = absurd (omega (arith, over, within, fits))
       by (stays at b rooms grown now serial v e room is sum has S same) = ap (λ (s : Step). numberIn (outcome s)) is
-      by (adds at b rooms grown now serial v e room is sum has S new shown others) = ap (λ (s : Step). numberIn (outcome s)) is
+      by (adds at b rooms grown now serial v e room is sum has S new laid others) = ap (λ (s : Step). numberIn (outcome s)) is
 
   -- and refused if not: with 4 or 9, and 9 only where that sum passes 32 bits
   pub add-refused : nameVerdict name ≡ Verdict.Accepted → dataSize area < used + lacks tree name value
@@ -57,7 +60,7 @@ module _ (area : List ℕ) (used : ℕ) (tree : Tree) (sound : Sound area used t
       by (badName why e is) = absurd (let q : Verdict.Accepted ≡ Verdict.Refused why = sym named ∙ e in clash cc)
       by (noRoom wanted b rooms grown now e full within is S same left) = which-number wanted _ (used + lacks tree name value) within (ap (λ (s : Step). numberIn (outcome s)) is)
       by (stays at b rooms grown now serial v e room is sum has S same) = absurd (omega (arith, over, room))
-      by (adds at b rooms grown now serial v e room is sum has S new shown others) = absurd (omega (arith, over, room))
+      by (adds at b rooms grown now serial v e room is sum has S new laid others) = absurd (omega (arith, over, room))
 
   -- an accepted add gives room to what is missing and to nothing else
   pub add-rooms : nameVerdict name ≡ Verdict.Accepted → used + lacks tree name value ≤ dataSize area → total (opRooms area (add name value)) ≡ lacks tree name value
@@ -67,7 +70,7 @@ module _ (area : List ℕ) (used : ℕ) (tree : Tree) (sound : Sound area used t
       by (badName why e is) = absurd (let q : Verdict.Accepted ≡ Verdict.Refused why = sym named ∙ e in clash cc)
       by (noRoom wanted b rooms grown now e over within is S same left) = absurd (omega (arith, over, within, fits))
       by (stays at b rooms grown now serial v e room is sum has S same) = ap (λ (s : Step). total (roomsIn s)) is ∙ sum
-      by (adds at b rooms grown now serial v e room is sum has S new shown others) = ap (λ (s : Step). total (roomsIn s)) is ∙ sum
+      by (adds at b rooms grown now serial v e room is sum has S new laid others) = ap (λ (s : Step). total (roomsIn s)) is ∙ sum
 
   -- a refused one leaves the nodes that it linked, and used includes them
   pub add-stays : nameVerdict name ≡ Verdict.Accepted → numberIn (call area (add name value)) ≢ noRefusal
@@ -80,7 +83,27 @@ module _ (area : List ℕ) (used : ℕ) (tree : Tree) (sound : Sound area used t
       by (noRoom wanted b rooms grown now e over within is S same left) =
           rw is (now, subst (λ (k : ℕ). Sound b k now) (moved area used tree sound name value (stops (fullNumber wanted) b rooms) is b grown now refl S) S, left)
       by (stays at b rooms grown now serial v e room is sum has S same) = absurd (refuses (ap (λ (s : Step). numberIn (outcome s)) is))
-      by (adds at b rooms grown now serial v e room is sum has S new shown others) = absurd (refuses (ap (λ (s : Step). numberIn (outcome s)) is))
+      by (adds at b rooms grown now serial v e room is sum has S new laid others) = absurd (refuses (ap (λ (s : Step). numberIn (outcome s)) is))
+
+  -- an accepted one of a name that was not found lays down an entry: find finds it, and its serial is a new entry's
+  pub add-serial : numberIn (call area (add name value)) ≡ noRefusal → (number : ℕ) → findSteps area name ≡ refused number
+      → (at : ℕ) × (count : ℕ) × (findSteps (bytesIn (call area (add name value))) name ≡ accepted (hit at count))
+      × (serialSteps (bytesIn (call area (add name value))) at ≡ accepted (cond (ltb (length value) slotSize) (shortSerial (length value)) longSerial))
+  add-serial fine number missing = by (add-sound area used tree sound name value)
+    where
+      by : AddDone area used tree name value (addSteps area name value)
+          → (at : ℕ) × (count : ℕ) × (findSteps (bytesIn (outcome (addSteps area name value))) name ≡ accepted (hit at count))
+          × (serialSteps (bytesIn (outcome (addSteps area name value))) at ≡ accepted (cond (ltb (length value) slotSize) (shortSerial (length value)) longSerial))
+      by (badName why e is) = absurd (number-some why (sym (ap (λ (s : Step). numberIn (outcome s)) is) ∙ fine))
+      by (noRoom wanted b rooms grown now e over within is S same left) =
+          let mild = room-mild (fullNumber wanted) (full-number wanted) in
+          absurd (number-some (mild .0) (sym (mild .1) ∙ sym (ap (λ (s : Step). numberIn (outcome s)) is) ∙ fine))
+      by (stays at b rooms grown now serial v e room is sum has S same) =
+          let f = entry-found area used tree sound name at serial name v has in
+          absurd (let q : accepted (hit at (f .0)) ≡ refused number = sym (f .1) ∙ missing in clash cc)
+      by (adds at b rooms grown now serial v e room is sum has S new laid others) =
+          let f = entry-found b grown now S name at serial name v new in
+          rw is (at, f .0, f .1, entry-serial b grown now S name at serial name v new ∙ ap accepted (laid-serial at name value serial v laid))
 
   -- an entry that stands at a node is its name's
   stands : (far serial : ℕ) (v : Value) → Stands tree far serial name v → entryOf tree name ≡ entry far serial name v

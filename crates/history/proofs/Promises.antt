@@ -3,11 +3,12 @@
 use Prim.Native.Nat.{ℕ, _+_, _-_, _/_, _≤_, _<_}
 use native.Mathlib.Omega.{arith}
 use mathlib.Core.Path.{_≡_, refl, subst, _∙_}
-use mathlib.Core.Bool.{true, false}
+use mathlib.Core.Bool.{true, false, cond}
 use mathlib.Core.Logic.{_≢_, _⊎_}
 use mathlib.Core.List.{List, [], _∷_, _++_}
 use mathlib.Core.Option.{Option, none, some}
 use lib.ListN.{length, getD}
+use lib.Dec.{ltb}
 use Rattle.words.specs.Words.{put}
 use Rattle.names.specs.Names.{segments}
 use Rattle.layout.specs.declared.refusal.Refusal.{Refusal}
@@ -15,10 +16,11 @@ use Rattle.layout.specs.declared.refusal.Verdict.{Verdict}
 use Rattle.layout.specs.Layout.{wordMax, areaMax, serialField, slotSize, backupAt, firstFree, formatMin, dataSize, byteOf, wordAt, headerWord, usedField}
 use Rattle.layout.specs.Refusals.{accepted, refused, refuse, numberOf, noRefusal, acceptLeaving, numberIn, bytesIn}
 use Rattle.property_area.specs.Find.{hit, findSteps}
+use Rattle.property_area.specs.Value.{serialSteps}
 use Rattle.property_area.specs.Walked.{walked}
 use Rattle.property_area.specs.Lookup.{shown}
-use Rattle.serials.specs.Serial.{positions}
-use Rattle.counters.specs.Distance.{distance}
+use Rattle.serials.specs.Serial.{longSerial, shortSerial, positions}
+use Rattle.counters.specs.Distance.{distance, serialAfter}
 use Rattle.allocation.specs.Steps.{total}
 use Rattle.builder.specs.Fresh.{fresh}
 use Rattle.builder.specs.Add.{anyEmpty, nameVerdict}
@@ -68,7 +70,13 @@ module _ (area : List ℕ) (used : ℕ) (tree : Tree) (sound : Sound area used t
   pub add-rooms : nameVerdict name ≡ Verdict.Accepted → used + lacks tree name value ≤ dataSize area → total (opRooms area (add name value)) ≡ lacks tree name value
   add-rooms = oneCall.add-rooms area used tree sound name value
 
-  -- ---- a refused one leaves the area sound, and the nodes that it linked stay: used includes them and, if only the long value failed, the entry's unwritten bytes
+  -- ---- one of a name that was not found lays down an entry: find finds it, and its serial is its value's length times 2^24, or 0x32010000 where that is 92 bytes or more
+  pub add-serial : numberIn (call area (add name value)) ≡ noRefusal → (number : ℕ) → findSteps area name ≡ refused number
+      → (at : ℕ) × (count : ℕ) × (findSteps (bytesIn (call area (add name value))) name ≡ accepted (hit at count))
+      × (serialSteps (bytesIn (call area (add name value))) at ≡ accepted (cond (ltb (length value) slotSize) (shortSerial (length value)) longSerial))
+  add-serial = oneCall.add-serial area used tree sound name value
+
+  -- ---- a refused one leaves the area sound. What it linked stays, and the used mark counts it, with the entry's room where only the long value found none
   pub add-stays : nameVerdict name ≡ Verdict.Accepted → numberIn (call area (add name value)) ≢ noRefusal
       → (now : Tree) × Sound (bytesIn (call area (add name value))) (used + total (opRooms area (add name value))) now × Stays area used tree name value (opRooms area (add name value)) now
   add-stays = oneCall.add-stays area used tree sound name value
@@ -168,9 +176,14 @@ module _ (area : List ℕ) (used : ℕ) (tree : Tree) (sound : Sound area used t
       → (name : List ℕ) × (value : List ℕ) × (told area name ops (toldBy (shown area name)) ≡ some value) × (count : ℕ) × (findSteps (after area ops) name ≡ accepted (hit at count))
   run-listed = telling.run-listed area used tree sound ops
 
-  -- ---- k accepted updates of a name, k < 32,768, give update distance k between the serials read before and after
-  pub run-distance : (name : List ℕ) (at count : ℕ) → findSteps area name ≡ accepted (hit at count) → length (updateSizes area name ops) < positions
-      → distance (wordAt area at serialField) (wordAt (after area ops) at serialField) ≡ length (updateSizes area name ops)
+  -- ---- the serial read is the one before the run, updated once for each accepted update of its name, with its value's length (counters' `after-whole`)
+  pub run-serial : (name : List ℕ) (at count : ℕ) → findSteps area name ≡ accepted (hit at count)
+      → serialSteps (after area ops) at ≡ accepted (serialAfter (wordAt area at serialField) (updateSizes area name ops))
+  run-serial = telling.run-serial area used tree sound ops
+
+  -- ---- so k accepted updates of a name, k < 32,768, give update distance k between the serials read before and after
+  pub run-distance : (name : List ℕ) (at count : ℕ) → findSteps area name ≡ accepted (hit at count) → (before now : ℕ) → serialSteps area at ≡ accepted before
+      → serialSteps (after area ops) at ≡ accepted now → length (updateSizes area name ops) < positions → distance before now ≡ length (updateSizes area name ops)
   run-distance = telling.run-distance area used tree sound ops
 
 -- a run of calls, from a fresh area on

@@ -11,6 +11,7 @@ use Rattle.allocation.specs.Steps.{total}
 use Rattle.layout.specs.declared.refusal.Refusal.{Refusal}
 use Rattle.layout.specs.Refusals.{accepted, refuse, bytesIn}
 use Rattle.counters.specs.Distance.{serialAfter}
+use Rattle.counters.proofs.Laws.{after-both}
 use Rattle.sound.specs.Tree.{Value, Entry, bare, entry, Tree}
 use Rattle.sound.specs.Sound.{Sound}
 use Rattle.property_area.specs.Lookup.{shown}
@@ -19,17 +20,12 @@ use Rattle.history.specs.Lack.{entryOf}
 use Rattle.history.proofs.Showing.{shown-some, shown-none}
 use Rattle.history.proofs.Next.{Matches, Lasts, next}
 
-after-sizes : (a b : List ℕ) (serial : ℕ) → serialAfter serial (a ++ b) ≡ serialAfter (serialAfter serial a) b
-unfolding serialAfter
-after-sizes [] b serial = refl
-after-sizes (size ∷ a) b serial = after-sizes a b _
-
 lasts-then : (e f g : Entry) (a b : List ℕ) → Lasts e f a → Lasts f g b → Lasts e g (a ++ b)
 lasts-then e f g a b p q = record {
   lasts = λ at serial name v h.
       (let one = p .lasts at serial name v h in
       let two = q .lasts at (serialAfter serial a) name (one .0) (one .1) in
-      (two .0, two .1 ∙ ap (λ (k : ℕ). entry at k name (two .0)) (sym (after-sizes a b serial))));
+      (two .0, two .1 ∙ ap (λ (k : ℕ). entry at k name (two .0)) (sym (after-both a b serial))));
 }
 
 lasts-none : (e : Entry) → Lasts e e []

@@ -1,6 +1,6 @@
--- What was told of a name in a run, against the tree that the run leaves: missing where nothing was told, listed exactly if something was, its updates counted.
+-- What was told of a name in a run, against the tree that the run leaves: missing where nothing was told, listed exactly if something was, its serial updated and its updates counted.
 use Prim.Native.Nat.{ℕ, _≤_, _<_}
-use mathlib.Core.Path.{_≡_, refl, sym, ap, subst}
+use mathlib.Core.Path.{_≡_, refl, sym, ap, subst, _∙_}
 use mathlib.Core.Bool.{false}
 use mathlib.Core.Logic.{_⊎_, inl, inr}
 use mathlib.Core.List.{List, [], _∷_}
@@ -11,6 +11,7 @@ use Rattle.layout.specs.declared.refusal.Refusal.{Refusal}
 use Rattle.layout.specs.Layout.{areaMax, serialField, firstFree, formatMin, wordAt, headerWord, usedField}
 use Rattle.layout.specs.Refusals.{accepted, refuse}
 use Rattle.property_area.specs.Find.{hit, findSteps}
+use Rattle.property_area.specs.Value.{serialSteps}
 use Rattle.property_area.specs.Lookup.{shown}
 use Rattle.serials.specs.Serial.{positions}
 use Rattle.counters.specs.Distance.{distance, serialAfter}
@@ -26,7 +27,7 @@ use Rattle.finding.proofs.Promises.{own-found}
 use Rattle.history.specs.History.{Op, after, told, toldBy, updateSizes}
 use Rattle.history.specs.Lack.{seek, entryOf}
 use Rattle.history.proofs.FreshSound.{fresh-sound}
-use Rattle.history.proofs.Entries.{serial-read, entry-found, entry-listed, found-entry, listed-held}
+use Rattle.history.proofs.Entries.{serial-word, entry-serial, entry-found, entry-listed, found-entry, listed-held}
 use Rattle.history.proofs.Seeking.{look-none}
 use Rattle.history.proofs.Showing.{shown-none, shown-which}
 use Rattle.history.proofs.Next.{Matches}
@@ -76,17 +77,23 @@ module _ (area : List ℕ) (used : ℕ) (tree : Tree) (sound : Sound area used t
       let t = held-told (entryOf now (h .2)) _ at (q .0) (h .2) (q .1) (q .2) (told-matches grown now S (h .2)) in
       (h .2, t .0, t .1, f .0, f .1)
 
-  -- ---- updates counted
-  pub run-distance : (name : List ℕ) (at count : ℕ) → findSteps area name ≡ accepted (hit at count) → length (updateSizes area name ops) < positions
-      → distance (wordAt area at serialField) (wordAt (after area ops) at serialField) ≡ length (updateSizes area name ops)
-  run-distance name at count f few =
-      let r = ran ops area used tree sound in
-      let q = found-entry area used tree sound name at count f in
-      let l = r .lasts name .lasts at (q .0) name (q .1) (q .2) in
-      let a : wordAt area at serialField ≡ q .0 = serial-read area used tree sound name at (q .0) name (q .1) (q .2) in
-      let b : wordAt (after area ops) at serialField ≡ serialAfter (q .0) (updateSizes area name ops)
-      = serial-read (after area ops) (r .grown) (r .now) (r .sound) name at (serialAfter (q .0) (updateSizes area name ops)) name (l .0) (l .1) in
-      rw (a, b) (distance-counts (updateSizes area name ops) (q .0) few)
+  -- ---- its serial, and updates counted
+  module _ (name : List ℕ) (at count : ℕ) (found : findSteps area name ≡ accepted (hit at count)) where
+    pub run-serial : serialSteps (after area ops) at ≡ accepted (serialAfter (wordAt area at serialField) (updateSizes area name ops))
+    run-serial =
+        let r = ran ops area used tree sound in
+        let q = found-entry area used tree sound name at count found in
+        let l = r .lasts name .lasts at (q .0) name (q .1) (q .2) in
+        let word : wordAt area at serialField ≡ q .0 = serial-word area at (q .0) (entry-serial area used tree sound name at (q .0) name (q .1) (q .2)) in
+        rw word (entry-serial (after area ops) (r .grown) (r .now) (r .sound) name at (serialAfter (q .0) (updateSizes area name ops)) name (l .0) (l .1))
+
+    pub run-distance : (before now : ℕ) → serialSteps area at ≡ accepted before → serialSteps (after area ops) at ≡ accepted now → length (updateSizes area name ops) < positions
+        → distance before now ≡ length (updateSizes area name ops)
+    run-distance before now b n few =
+        let last : accepted (serialAfter before (updateSizes area name ops)) ≡ accepted now
+        = ap (λ (s : ℕ). accepted (serialAfter s (updateSizes area name ops))) (sym (serial-word area at before b)) ∙ sym run-serial ∙ n in
+        let same : serialAfter before (updateSizes area name ops) ≡ now = cc in
+        rw (← same) (distance-counts (updateSizes area name ops) before few)
 
 -- ---- of a fresh area nothing is told
 -- an empty tree has no entries

@@ -20,7 +20,8 @@ use Rattle.history.specs.History.{Op, after, told, AsTold, given}
 use Rattle.history.specs.Calls.{Answers, Undamaged}
 
 pub record Demand (start : List ℕ) (ops : List Op) : Type 0 where
-  -- a lookup shows the last accepted update, else the first accepted add, up to its first zero byte; any other name is refused as missing or malformed
+  -- a lookup shows the last accepted update, else the first accepted add, up to its first zero byte; any other name is refused
+  -- as missing or malformed
   pub shows : (name : List ℕ) → AsTold (shown (after start ops) name) (told start name ops none)
   -- nothing ever reports damage, or a bad header: no call, whatever its name, value and buffers, at an offset that find answered
   pub undamaged : (number : ℕ) → Answers (after start ops) number → Undamaged number
@@ -28,9 +29,12 @@ pub record Demand (start : List ℕ) (ops : List Op) : Type 0 where
   pub tree : Tree
   pub sound : Sound (after start ops) (usedOf (after start ops)) tree
   pub apart : Apart (objects tree)
-  -- the used mark is exact: 112 and the padded sizes of all objects that were given room, those of refused adds included (which: `add-rooms`, `add-stays`)
+  -- the used mark is exact: 112 and the padded sizes of all objects that were given room, those of refused adds included
+  -- (which: `add-rooms`, `add-stays`)
   pub used : usedOf (after start ops) ≡ firstFree + total (given start ops)
-  -- the lookup's cost is exact: found, it tells how many nodes it compared; found or refused, these are at most (used - 112) / 24, and have at most used - 112 bytes
-  pub count : (name : List ℕ) (at compared : ℕ) → findSteps (after start ops) name ≡ accepted (hit at compared) → compared ≡ length (walked (after start ops) name)
+  -- the lookup's cost is exact: found, it tells how many nodes it compared; found or refused, these are at most (used - 112) / 24,
+  -- and have at most used - 112 bytes
+  pub count : (name : List ℕ) (at compared : ℕ) → findSteps (after start ops) name ≡ accepted (hit at compared)
+      → compared ≡ length (walked (after start ops) name)
   pub cost : (name : List ℕ) → length (walked (after start ops) name) ≤ (usedOf (after start ops) - firstFree) / 24
   pub reads : (name : List ℕ) → summed (nodeBytes (after start ops)) (walked (after start ops) name) ≤ usedOf (after start ops) - firstFree

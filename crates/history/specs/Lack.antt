@@ -1,4 +1,4 @@
--- What an add lacks in a tree: the padded sizes of the nodes, the entry and the long value that are not there (document 01, How much each contract must say).
+-- What an add lacks in a tree: the padded sizes of the nodes, the entry and the long value that are not there (RULES 10.3).
 use Prim.Native.Nat.{ℕ, _+_}
 use mathlib.Core.Bool.{cond}
 use mathlib.Core.List.{List, [], _∷_}

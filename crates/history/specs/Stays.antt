@@ -1,5 +1,5 @@
--- What stays of an add that is refused for want of room (document 01, Numbers of refusal): nodes already linked stay; used includes them and, if only the long
--- value failed, the entry's unwritten bytes.
+-- What stays of an add that is refused for want of room (RULES 9): the nodes that it linked, which the used mark
+-- counts, with the entry's room where only the long value found none.
 use Prim.Native.Nat.{ℕ, _+_, _≤_, _<_}
 use mathlib.Core.Path.{_≡_}
 use mathlib.Core.List.{List}

@@ -1,4 +1,4 @@
--- What the layout promises: the header's fields fill it, touching is what document 01 says, and no two refusals share a number.
+-- What the layout promises: the header's fields fill it, touching is what RULES 3.2 says, and no two refusals share a number.
 use mathlib.Core.Path.{_≡_, refl, _∙_}
 use mathlib.Core.Logic.{_≢_}
 use mathlib.Core.Bool.{true}

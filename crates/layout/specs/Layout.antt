@@ -1,4 +1,4 @@
--- Layout (document 01): the one place of sizes, offsets and limits; touching; the words of records; text up to its zero.
+-- Layout (RULES 2; touching 3.2): the one place of sizes, offsets and limits; touching; the words of records; text up to its zero.
 use Prim.Native.Nat.{ℕ, _+_, _-_, _%_, _≤_}
 use mathlib.Core.Bool.{Bool, cond, _&&_}
 use mathlib.Core.List.{List, [], _∷_}
@@ -95,7 +95,7 @@ messageLength = 50
 abbrev pub longOffsetField : ℕ
 longOffsetField = messageField + messageSize
 
--- ---- data bytes 0 to 19 are the root node, 20 to 111 the backup slot
+-- ---- the data begin with the root node; the backup slot is next
 abbrev pub rootAt : ℕ
 rootAt = 0
 
@@ -130,7 +130,7 @@ headerWord area field = littleAt wordSize area field
 abbrev pub wordAt : List ℕ → ℕ → ℕ → ℕ
 wordAt area at field = littleAt wordSize area (placeOf at field)
 
--- ---- a node with name of n bytes takes align4(21 + n); an entry align4(97 + full name length); a long value align4(length + 1)
+-- ---- rooms (RULES 2.8): record, text and zero, rounded up to a multiple of 4
 abbrev pub nodeTakes : ℕ → ℕ
 nodeTakes n = roundUp4 (nodeSize + n + 1)
 
@@ -140,7 +140,7 @@ entryTakes n = roundUp4 (entrySize + n + 1)
 abbrev pub valueTakes : ℕ → ℕ
 valueTakes n = roundUp4 (n + 1)
 
--- ---- touching: it must lie within the area (96 bytes for an entry, 20 for a node) and its offset must be a multiple of 4
+-- ---- touching (RULES 3.2): all of the record lies in the data, at a multiple of 4
 abbrev pub Within : List ℕ → ℕ → ℕ → Type 0
 Within area size at = at + size ≤ dataSize area
 

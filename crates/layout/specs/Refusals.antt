@@ -1,4 +1,4 @@
--- Numbers of refusal (document 01), and what a call answers with.
+-- Numbers of refusal (RULES 9), and what a call answers with.
 use Prim.Native.Nat.{ℕ}
 use mathlib.Core.Bool.{Bool, cond}
 use mathlib.Core.List.{List}

@@ -1,4 +1,4 @@
--- Add (document 01), the nodes: the walk of find, laying down each missing node and linking it at once.
+-- Add (RULES 5.3), the nodes: the walk of find, laying down each missing node and linking it at once.
 use Prim.Native.Nat.{ℕ, _+_}
 use mathlib.Core.Bool.{cond}
 use mathlib.Core.List.{List, [], _∷_}
@@ -42,7 +42,7 @@ orHang area segment (Searched.Refused why) = stopBy area why
 unfoldable pub addNode : List ℕ → List ℕ → ℕ → Step
 addNode area segment first = orHang area segment (searchFrom area segment (nodesMax area) first 0)
 
--- a node laid under a zero children link is then searched from like any other
+-- RULES 5.3: where the children link was 0, the search begins at the new node
 abbrev pub addChild : List ℕ → List ℕ → ℕ → ℕ → Step
 addChild area segment link first =
     cond (eqb first 0) (andThen (hangNode area link segment) (λ at laid. addNode laid segment at)) (addNode area segment first)

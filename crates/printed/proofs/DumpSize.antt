@@ -1,5 +1,5 @@
--- No dump is longer than textMax: an entry's line is at most four times what the entry and its long value take, and all objects of
--- a file take at most what it has behind its first 112 bytes of data.
+-- The dump of a sound area is at most four times as long as the area: an entry's line is at most four times what the entry and its long value take, and all
+-- objects take at most what the area has behind its first 112 bytes of data. So no dump of a file is longer than textMax.
 use Prim.Native.Nat.{ℕ, _+_, _*_, _≤_}
 use mathlib.Core.List.{List, _++_}
 use native.Mathlib.Omega.{arith}
@@ -8,7 +8,7 @@ use Rattle.words.specs.Words.{firstIn}
 use Rattle.words.proofs.Laws.{bool-cases}
 use Rattle.layout.specs.Layout.{slotSize}
 use Rattle.sound.specs.Tree.{Value, short, long, Entry, bare, entry, Tree, leaf, node, listed}
-use Rattle.sound.specs.Sound.{ValueAt, EntryAt, TreeAt}
+use Rattle.sound.specs.Sound.{ValueAt, EntryAt, TreeAt, Sound}
 use Rattle.sound.proofs.Counting.{valueTaken, entryTaken, taken, taken-few}
 use Rattle.finding.specs.Look.{valueText}
 use Rattle.audit.specs.Check.{usedOf, Judged, sound, unsound}
@@ -16,7 +16,7 @@ use Rattle.texts.specs.Text.{digitsMax}
 use Rattle.texts.proofs.Promises.{escaped-few, decimal-few}
 use Rattle.answers.specs.Answers.{fileMax, textMax, fileOk}
 use Rattle.dumping.specs.Dump.{headText}
-use Rattle.printed.specs.Printed.{ownLine, treeLines, judgedDump, fileDump}
+use Rattle.printed.specs.Printed.{ownLine, treeLines, treeDump, roomFor, judgedDump, fileDump}
 use Rattle.printed.proofs.Sizes.{refused-small, file-fits}
 
 -- ---- a line: what a value shows is at most its slot, or its text
@@ -46,21 +46,25 @@ lines-few area (node at name own left below right) holds =
       lines-few area right (holds .4),
     )
 
--- ---- beside four times the longest file there is room for the first line
-head-small : (count used : ℕ) → 4 * fileMax + length (headText count used) ≤ textMax
-head-small count used = simp length-append (omega (arith, decimal-few digitsMax count, decimal-few digitsMax used))
+-- ---- beside them there is room for the first line in the bytes before the objects
+pub text-room : (area : List ℕ) (tree : Tree) → Sound area (usedOf area) tree → length (treeDump area tree) ≤ roomFor area
+text-room area tree is =
+    omega (
+      arith,
+      length-append (headText (length (listed tree)) (usedOf area)) (treeLines tree),
+      head-few (length (listed tree)) (usedOf area),
+      lines-few area tree (is .bytes),
+      taken-few area (usedOf area) tree is,
+      is .front .low,
+      is .front .high,
+    )
+  where
+    head-few : (count used : ℕ) → length (headText count used) ≤ 64
+    head-few count used = simp length-append (omega (arith, decimal-few digitsMax count, decimal-few digitsMax used))
 
 pub dump-small : (area : List ℕ) (judged : Judged area) → length (fileDump area judged) ≤ textMax
 dump-small area judged = bool-cases (fileOk area) (λ ok. rw ok (by (file-fits area ok) judged)) (λ no. rw no (refused-small _))
   where
     by : length area ≤ fileMax → (judged : Judged area) → length (judgedDump area judged) ≤ textMax
-    by few (sound tree is) =
-        omega (
-          arith,
-          length-append (headText (length (listed tree)) (usedOf area)) (treeLines tree),
-          head-small (length (listed tree)) (usedOf area),
-          lines-few area tree (is .bytes),
-          taken-few area (usedOf area) tree is,
-          is .front .high,
-        )
+    by few (sound tree is) = omega (arith, text-room area tree is)
     by few (unsound none) = refused-small _

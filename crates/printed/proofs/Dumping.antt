@@ -30,9 +30,9 @@ entriesMax = 526
 abbrev listingText : List ℕ → Listing → List ℕ
 listingText area (lists answer left noted) = dumpText area answer noted
 
--- ---- offsets that are put into a list stand at its front
-offsets-stand : (list offsets : List ℕ) → length offsets ≤ length list → take (length offsets) (put list 0 offsets) ≡ offsets
-offsets-stand list offsets fits = rw (zero-add (length offsets)) at (put-front list 0 offsets (omega arith))
+-- ---- what is put at the start of a list, or of a buffer, stands there whole
+pub put-start : (into what : List ℕ) → length what ≤ length into → take (length what) (put into 0 what) ≡ what
+put-start into what fits = rw (zero-add (length what)) at (put-front into 0 what (omega arith))
 
 -- ---- the ways out: 8 twice, then 5 or the entries
 module _ (area scratch list : List ℕ) (room : fileMax ≤ 4 * length scratch) (many : entriesMax ≤ length list) where
@@ -44,7 +44,7 @@ module _ (area scratch list : List ℕ) (room : fileMax ≤ 4 * length scratch) 
     unfolding surveySteps
     judged-prints (sound tree is) =
         let fits : length (listed tree) ≤ length list = omega (arith, listed-few area (usedOf area) tree is, is .front .high) in
-        rw (list-accepts area scratch header enough list tree is fits (sound tree is), offsets-stand list (listed tree) fits, tree-lines area (usedOf area) tree is)
+        rw (list-accepts area scratch header enough list tree is fits (sound tree is), put-start list (listed tree) fits, tree-lines area (usedOf area) tree is)
     judged-prints (unsound none) = rw (header, le-leb (length area / wordSize) (length scratch) enough)
 
   listing-prints : (judged : Judged area) → listingText area (fileListing area scratch list judged) ≡ fileDump area judged

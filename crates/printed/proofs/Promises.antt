@@ -1,24 +1,29 @@
 -- What is printed: the dump tells the tree; texts have room in the output, so they stand there whole; and over all turns what the lookup says is the text of its whole
--- input. The proofs stand in TreeLines, Sizes, DumpSize, Dumping, Serving and Whole.
+-- input. The proofs stand in TreeLines, Sizes, DumpSize, Dumping, Filling, Serving and Whole.
 use Prim.Native.Nat.{ℕ, _+_, _*_, _≤_, _<_}
 use mathlib.Core.Path.{_≡_, sym, _∙_}
 use mathlib.Core.List.{List, _++_}
 use native.Mathlib.Omega.{arith}
 use lib.ListN.{length, take, drop}
-use Rattle.layout.specs.Refusals.{Answer}
+use Rattle.words.specs.Words.{put}
+use Rattle.layout.specs.Layout.{areaMax}
+use Rattle.layout.specs.declared.refusal.Refusal.{Refusal}
+use Rattle.layout.specs.Refusals.{Answer, accepted, refuse}
 use Rattle.sound.specs.Tree.{Tree, listed}
 use Rattle.sound.specs.Sound.{Without, Sound}
-use Rattle.audit.specs.Check.{Judged, lists}
+use Rattle.audit.specs.Check.{usedOf, Judged, blank, scratchMin, lists}
 use Rattle.texts.specs.Text.{Said, feed, saying, said, lineFeed}
 use Rattle.answers.specs.Answers.{fileMax, nameMax, textMax, answerText}
 use Rattle.answers.specs.Lines.{lookupText, turned, turnSteps, endSteps}
-use Rattle.dumping.specs.Dump.{entryLines, dumpText, fileListing, DumpSays}
-use Rattle.printed.specs.Printed.{treeLines, fileDump, fedText, fedHeld, fedNext, endText, Served, joined}
+use Rattle.dumping.specs.Dump.{entryLines, dumpText, fileListing, DumpSays, fills, fillSteps}
+use Rattle.printed.specs.Printed.{treeLines, treeDump, placesFor, roomFor, fileDump, fedText, fedHeld, fedNext, endText, Served, joined}
 use Rattle.printed.proofs.TreeLines as treeLaws
 use Rattle.printed.proofs.Sizes as sizes
 use Rattle.printed.proofs.DumpSize as dumpSize
 use Rattle.printed.proofs.Dumping as dumping
 use dumping.{entriesMax}
+use Rattle.printed.proofs.Filling as filling
+use filling.{FillTells}
 use Rattle.printed.proofs.Serving as serving
 use Rattle.printed.proofs.Whole as whole
 
@@ -43,6 +48,36 @@ pub dump-whole : (area scratch list out : List ℕ) (told : ℕ) (after left not
     → DumpSays area scratch list out told after left noted
     → fileMax ≤ 4 * length scratch → entriesMax ≤ length list → textMax ≤ length out → (judged : Judged area) → take told after ≡ fileDump area judged
 dump-whole = whole.dump-whole
+
+-- ---- the dump of a sound area is at most four times as long as the area
+pub text-room : (area : List ℕ) (tree : Tree) → Sound area (usedOf area) tree → length (treeDump area tree) ≤ roomFor area
+text-room = dumpSize.text-room
+
+-- ---- what an accepted dump in the caller's room says: the area is sound, and its tree's text stands there whole; so the length fits 32 bits
+pub fill-tells : (area scratch list room : List ℕ) (judged : Judged area) (n : ℕ) (after left noted : List ℕ)
+    → fillSteps area scratch list room judged ≡ fills (accepted n) after left noted → FillTells area n after
+fill-tells = filling.fill-tells
+
+pub fill-few : (area scratch list room : List ℕ) (judged : Judged area) (n : ℕ) (after left noted : List ℕ)
+    → fillSteps area scratch list room judged ≡ fills (accepted n) after left noted → n ≤ 4 * areaMax
+fill-few = filling.fill-few
+
+-- ---- a sound area's dump is accepted where scratch, list and room have what it takes: answer and every byte
+module _ (area scratch list room : List ℕ) (tree : Tree) (is : Sound area (usedOf area) tree) (enough : scratchMin area ≤ length scratch) where
+  pub fill-accepts : length (listed tree) ≤ length list → length (treeDump area tree) ≤ length room → (judged : Judged area)
+      → fillSteps area scratch list room judged ≡ fills (accepted (length (treeDump area tree))) (put room 0 (treeDump area tree)) (blank scratch) (put list 0 (listed tree))
+  fill-accepts = filling.fill-accepts area scratch list room tree is enough
+
+  -- refused where only the room is short: the room is kept, scratch and list are as listing leaves them
+  pub fill-short : length (listed tree) ≤ length list → length room < length (treeDump area tree) → (judged : Judged area)
+      → fillSteps area scratch list room judged ≡ fills (refuse Refusal.ShortBuffer) room (blank scratch) (put list 0 (listed tree))
+  fill-short = filling.fill-short area scratch list room tree is enough
+
+  -- and what is always enough for an area of its length
+  pub fill-whole : placesFor area ≤ length list → roomFor area ≤ length room → (judged : Judged area) (answer : Answer ℕ) (after left noted : List ℕ)
+      → fills answer after left noted ≡ fillSteps area scratch list room judged
+      → (answer ≡ accepted (length (treeDump area tree))) × (take (length (treeDump area tree)) after ≡ treeDump area tree)
+  fill-whole = filling.fill-whole area scratch list room tree is enough
 
 -- ---- a name that is cut above the limit is answered like the whole name
 pub answer-cut : (area name : List ℕ) (k : ℕ) → nameMax < k → answerText area (take k name) ≡ answerText area name

@@ -10,7 +10,7 @@ use lib.ListN.{length, length-append}
 use Rattle.words.specs.Words.{part}
 use Rattle.words.proofs.Laws.{bool-cases, part-length}
 use Rattle.layout.specs.Refusals.{Answer, accepted, refused, onAccepted}
-use Rattle.property_area.specs.declared.values.ValuePart.{ValuePart}
+use Rattle.property_area.specs.declared.values.AreaPart.{AreaPart}
 use Rattle.trie.specs.Header.{headerOk}
 use Rattle.property_area.specs.Value.{Part, bytes, partBytes}
 use Rattle.texts.specs.Text.{escaped, digitsMax, decimal}
@@ -34,5 +34,5 @@ answer-small area name =
     by : length area ≤ fileMax → (answer : Answer Part) → answer ≡ askSteps area name → length (answerLine (onAccepted (partBytes area) answer)) ≤ textMax
     by few (refused number) e = refused-small number
     by few (accepted (bytes from to)) e =
-        let lies = ask-in area name (ValuePart.Bytes from to) e from to refl in
+        let lies = ask-in area name (AreaPart.Bytes from to) e from to refl in
         omega (arith, length-append (escaped (part area from to)) ending, escaped-few (part area from to), part-length area from to (lies .low) (lies .high), lies .high)

@@ -1,5 +1,5 @@
 -- For the promises: the dump told by the tree, and a run of the lookup over an input that comes in pieces.
-use Prim.Native.Nat.{ℕ, _≤_, _<_}
+use Prim.Native.Nat.{ℕ, _*_, _/_, _≤_, _<_}
 use mathlib.Core.Bool.{true, false, cond}
 use mathlib.Core.List.{List, [], _∷_, _++_}
 use lib.ListN.{length, take, drop}
@@ -22,9 +22,20 @@ unfoldable pub treeLines : Tree → List ℕ
 treeLines leaf = []
 treeLines (node at name own left below right) = treeLines left ++ ownLine own ++ treeLines below ++ treeLines right
 
+-- the dump of a sound area, by its tree: count and used mark, then the lines
+abbrev pub treeDump : List ℕ → Tree → List ℕ
+treeDump area tree = headText (length (listed tree)) (usedOf area) ++ treeLines tree
+
+-- what is always enough for it: places of the list, since an entry and its node take 124 bytes at least (`listed-few`), and bytes of the room (`text-room`)
+abbrev pub placesFor : List ℕ → ℕ
+placesFor area = length area / 124
+
+abbrev pub roomFor : List ℕ → ℕ
+roomFor area = 4 * length area
+
 -- the dump of a file: 8, then 5, then a sound area's tree
 abbrev pub judgedDump : (area : List ℕ) → Judged area → List ℕ
-judgedDump area (sound tree is) = headText (length (listed tree)) (usedOf area) ++ treeLines tree
+judgedDump area (sound tree is) = treeDump area tree
 judgedDump area (unsound none) = refusedText (numberOf Refusal.Damaged)
 
 abbrev pub fileDump : (area : List ℕ) → Judged area → List ℕ

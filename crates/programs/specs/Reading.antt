@@ -1,4 +1,4 @@
--- A file that cannot be read to its end (document 01: "unreadable is empty").
+-- A file that cannot be read to its end (RULES 8.4): it is empty.
 use Prim.Native.Nat.{ℕ, zero, suc}
 use lib.IntN.{ℤ, pos, negsuc}
 

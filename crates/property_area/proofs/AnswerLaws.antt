@@ -1,4 +1,4 @@
--- What an answer tells: its case, by document 01's numbers; and of find, that the entry it found can be touched, and how many nodes it compared.
+-- What an answer tells: its case, by the refusals' numbers; and of find, that the entry it found can be touched, and how many nodes it compared.
 use mathlib.Core.Path.{_≡_, refl, ap}
 use mathlib.Core.Logic.{inl}
 use mathlib.Core.Bool.{true}
@@ -15,28 +15,35 @@ use Rattle.layout.specs.Layout.{rootAt, propField, nodeOk, entryOk, wordAt}
 use Rattle.layout.specs.Refusals.{Answer, accepted, refuse, numberOf}
 use Rattle.layout.proofs.Promises.{one-refusal}
 use Rattle.trie.specs.declared.trie.Searched.{Searched}
+use Rattle.property_area.specs.declared.counting.EntrySerial.{EntrySerial}
 use Rattle.property_area.specs.declared.descent.Found.{Found}
-use Rattle.property_area.specs.declared.values.ValuePart.{ValuePart}
+use Rattle.property_area.specs.declared.values.AreaPart.{AreaPart}
 use Rattle.trie.specs.Header.{headerOk}
 use Rattle.trie.specs.Trie.{nodesMax, segmentSteps}
 use Rattle.trie.specs.Visits.{visits}
 use Rattle.trie.proofs.Promises.{segment-bound, segment-counts}
 use Rattle.property_area.specs.Find.{Hit, hit, countLimit, foundAnswer, bySearch, propSteps, findFrom, findSteps}
 use Rattle.property_area.specs.Walked.{byNamed, walkedFrom, walked}
-use Rattle.property_area.specs.Value.{partAnswer}
+use Rattle.property_area.specs.Value.{partAnswer, serialAnswer}
 
--- ---- an answer in document 01's numbers tells the case
+-- ---- an answer by its number tells the case
 pub found-tells : (a b : Found) → foundAnswer a ≡ foundAnswer b → a ≡ b
 found-tells (Found.Entry o n) (Found.Entry p m) e = let f : o ≡ p = cc in let g : n ≡ m = cc in cc
 found-tells (Found.Entry o n) (Found.Refused b) e = clash cc
 found-tells (Found.Refused a) (Found.Entry p m) e = clash cc
 found-tells (Found.Refused a) (Found.Refused b) e = let k : numberOf a ≡ numberOf b = cc in ap Found.Refused (one-refusal a b k)
 
-pub part-tells : (a b : ValuePart) → partAnswer a ≡ partAnswer b → a ≡ b
-part-tells (ValuePart.Bytes o n) (ValuePart.Bytes p m) e = let f : o ≡ p = cc in let g : n ≡ m = cc in cc
-part-tells (ValuePart.Bytes o n) (ValuePart.Refused b) e = clash cc
-part-tells (ValuePart.Refused a) (ValuePart.Bytes p m) e = clash cc
-part-tells (ValuePart.Refused a) (ValuePart.Refused b) e = let k : numberOf a ≡ numberOf b = cc in ap ValuePart.Refused (one-refusal a b k)
+pub part-tells : (a b : AreaPart) → partAnswer a ≡ partAnswer b → a ≡ b
+part-tells (AreaPart.Bytes o n) (AreaPart.Bytes p m) e = let f : o ≡ p = cc in let g : n ≡ m = cc in cc
+part-tells (AreaPart.Bytes o n) (AreaPart.Refused b) e = clash cc
+part-tells (AreaPart.Refused a) (AreaPart.Bytes p m) e = clash cc
+part-tells (AreaPart.Refused a) (AreaPart.Refused b) e = let k : numberOf a ≡ numberOf b = cc in ap AreaPart.Refused (one-refusal a b k)
+
+pub serial-tells : (a b : EntrySerial) → serialAnswer a ≡ serialAnswer b → a ≡ b
+serial-tells (EntrySerial.Word n) (EntrySerial.Word m) e = let g : n ≡ m = cc in cc
+serial-tells (EntrySerial.Word n) (EntrySerial.Refused b) e = clash cc
+serial-tells (EntrySerial.Refused a) (EntrySerial.Word m) e = clash cc
+serial-tells (EntrySerial.Refused a) (EntrySerial.Refused b) e = let k : numberOf a ≡ numberOf b = cc in ap EntrySerial.Refused (one-refusal a b k)
 
 -- ---- what holds of every refusal, and of every hit at an entry that can be touched that tells the count of the nodes compared, holds of what find answers
 module _ (area : List ℕ) (P : Answer Hit → Type 0) (refuses : (why : Refusal) → P (refuse why)) where

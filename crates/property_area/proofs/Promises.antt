@@ -1,4 +1,4 @@
--- What the read side promises of any bytes: no second outcome of find, value and the backup read; what is found can be touched; how many nodes are compared; what 0
+-- What the read side promises of any bytes: no second outcome of find, value, name, serial and the backup read; what is found can be touched; how many nodes are compared; what 0
 -- says of a backup read.
 use mathlib.Core.Path.{_≡_, sym, _∙_}
 use mathlib.Core.Bool.{true}
@@ -12,25 +12,32 @@ use Rattle.layout.specs.Layout.{backupAt, byteOf, placeOf, entryOk}
 use Rattle.layout.specs.Refusals.{accepted, verdictNumber, leaves, acceptLeaving}
 use Rattle.layout.proofs.Promises.{one-outcome}
 use Rattle.trie.specs.Trie.{nodesMax}
+use Rattle.property_area.specs.declared.counting.EntrySerial.{EntrySerial}
 use Rattle.property_area.specs.declared.descent.Found.{Found}
-use Rattle.property_area.specs.declared.values.ValuePart.{ValuePart}
+use Rattle.property_area.specs.declared.values.AreaPart.{AreaPart}
 use Rattle.property_area.specs.Find.{hit, countLimit, foundAnswer, findSteps}
 use Rattle.property_area.specs.Walked.{walked}
 use Rattle.property_area.specs.Lookup.{lookupSteps}
-use Rattle.property_area.specs.Value.{partAnswer, valueSteps}
+use Rattle.property_area.specs.Value.{partAnswer, valueSteps, nameSteps, serialAnswer, serialSteps}
 use Rattle.property_area.specs.Backup.{backupSteps}
-use Rattle.property_area.proofs.AnswerLaws.{found-tells, part-tells}
+use Rattle.property_area.proofs.AnswerLaws.{found-tells, part-tells, serial-tells}
 use Rattle.property_area.proofs.AnswerLaws as answers
 use Rattle.property_area.proofs.BackupLaws as backups
 
--- ---- no second outcome satisfies the contract of find, of value, of the backup read
+-- ---- no second outcome satisfies the contract of find, of value, name and serial, of the lookup, of the backup read
 pub one-found : (area name : List ℕ) (a b : Found) → foundAnswer a ≡ findSteps area name → foundAnswer b ≡ findSteps area name → a ≡ b
 one-found area name a b p q = found-tells a b (p ∙ sym q)
 
-pub one-value : (area : List ℕ) (offset : ℕ) (a b : ValuePart) → partAnswer a ≡ valueSteps area offset → partAnswer b ≡ valueSteps area offset → a ≡ b
+pub one-value : (area : List ℕ) (offset : ℕ) (a b : AreaPart) → partAnswer a ≡ valueSteps area offset → partAnswer b ≡ valueSteps area offset → a ≡ b
 one-value area offset a b p q = part-tells a b (p ∙ sym q)
 
-pub one-lookup : (area name : List ℕ) (a b : ValuePart) → partAnswer a ≡ lookupSteps area name → partAnswer b ≡ lookupSteps area name → a ≡ b
+pub one-name : (area : List ℕ) (offset : ℕ) (a b : AreaPart) → partAnswer a ≡ nameSteps area offset → partAnswer b ≡ nameSteps area offset → a ≡ b
+one-name area offset a b p q = part-tells a b (p ∙ sym q)
+
+pub one-serial : (area : List ℕ) (offset : ℕ) (a b : EntrySerial) → serialAnswer a ≡ serialSteps area offset → serialAnswer b ≡ serialSteps area offset → a ≡ b
+one-serial area offset a b p q = serial-tells a b (p ∙ sym q)
+
+pub one-lookup : (area name : List ℕ) (a b : AreaPart) → partAnswer a ≡ lookupSteps area name → partAnswer b ≡ lookupSteps area name → a ≡ b
 one-lookup area name a b p q = part-tells a b (p ∙ sym q)
 
 pub one-backup : (area buffer : List ℕ) (v w : Verdict) (a b : List ℕ)

@@ -1,4 +1,4 @@
--- Backup read (document 01): the buffer's length is the number of bytes wanted.
+-- Backup read (RULES 4.9): the buffer's length is the number of bytes wanted.
 use Prim.Native.Nat.{ℕ, _+_}
 use mathlib.Core.Bool.{cond}
 use mathlib.Core.List.{List}
@@ -10,7 +10,7 @@ use Rattle.layout.specs.Refusals.{guard, Outcome, acceptLeaving, refuseLeaving}
 use Rattle.layout.specs.Layout.{backupAt, backupSize, dataSize, byteOf, placeOf}
 use Rattle.trie.specs.Header.{headerOk}
 
--- 92 or more bytes wanted: 6; 20 plus the number wanted above data size: 5; else the buffer holds that many slot bytes
+-- RULES 4.9: 8, a buffer of 92 bytes or more (6), a slot that lies past the area (5); else the slot's first bytes
 unfoldable pub backupSteps : List ℕ → List ℕ → Outcome
 backupSteps area buffer =
     guard (headerOk area) (refuseLeaving buffer Refusal.BadHeader)

@@ -1,4 +1,4 @@
--- Find (document 01).
+-- Find (RULES 4.1, 4.2).
 use Prim.Native.Nat.{ℕ, _+_, _%_, _^_}
 use mathlib.Core.Bool.{cond}
 use mathlib.Core.List.{List, [], _∷_}
@@ -36,7 +36,7 @@ bySearch (Searched.Named node compared) on = on node compared
 bySearch (Searched.Absent link compared) on = refuse Refusal.Missing
 bySearch (Searched.Refused why) on = refuse why
 
--- after the last segment a zero prop is 3, else the entry is touched
+-- RULES 4.2: no entry there (3), else it is touched
 abbrev pub entrySteps : List ℕ → ℕ → ℕ → Answer Hit
 entrySteps area offset compared =
     cond (eqb offset 0) (refuse Refusal.Missing) (guard (entryOk area offset) (refuse Refusal.Damaged) (accepted (hit offset compared)))

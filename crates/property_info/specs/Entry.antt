@@ -1,4 +1,4 @@
--- Value (document 01): what an entry shows, and where it stands. The entry has been touched.
+-- Value (RULES 4.3, 4.4): what an entry shows, and where it stands. The entry has been touched.
 use Prim.Native.Nat.{ℕ, _-_}
 use mathlib.Core.Bool.{Bool, cond}
 use mathlib.Core.List.{List}
@@ -30,7 +30,7 @@ textFrom area from = textIn area from (length area - from)
 unfoldable pub nameOf : List ℕ → ℕ → Span
 nameOf area at = textFrom area (placeOf at entrySize)
 
--- the relative offset must be at least align4(96 + L + 1), L being the entry name's length; the value runs to the next zero in the area
+-- RULES 4.4: no relative offset that leads into the entry or its name; the value ends at a zero of the area
 abbrev pub behindName : List ℕ → ℕ → ℕ → Span → Span
 behindName area at relative (Bytes from to) = guard (leb (entryTakes (to - from)) relative) Broken (textFrom area (placeOf at relative))
 behindName area at relative Broken = Broken

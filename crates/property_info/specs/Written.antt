@@ -1,4 +1,4 @@
--- The stores that make an entry, and those that update one (document 01, Add and Update by name).
+-- The stores that make an entry, and those that update one (RULES 5.5, 5.7).
 use Prim.Native.Nat.{ℕ, _-_}
 use mathlib.Core.List.{List, [], _∷_, _++_}
 use lib.ListN.{length, replicate}
@@ -24,7 +24,7 @@ longStores at relative =
     ∷ wordStore (placeOf at longOffsetField) relative
     ∷ []
 
--- serial becomes serial or 1, value and zero are written, and the serial becomes the updated one
+-- RULES 5.7: the serial with bit 0 set, the value and a zero, the updated serial
 unfoldable pub writeStores : ℕ → ℕ → List ℕ → List Store
 writeStores at serial value =
     wordStore (placeOf at serialField) (dirty serial)

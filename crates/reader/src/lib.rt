@@ -3,8 +3,8 @@ ghost use mathlib.Core.Path.{_≡_};
 ghost use Rattle.property_area.specs.Find.{foundAnswer, findSteps};
 ghost use Rattle.property_area.specs.Lookup.{lookupSteps};
 ghost use Rattle.property_area.specs.Value.{partAnswer, valueSteps};
+use property_area::AreaPart;
 use property_area::Found;
-use property_area::ValuePart;
 
 // The place is an entry's offset, as find gives it.
 pub struct AreaReader<'a> {
@@ -27,7 +27,7 @@ pub fn find_through<'a, 'n>(r: AreaReader<'a>, name: &'n [u8]) -> Found
 }
 
 // The value of the entry at the reader's place.
-pub fn value_here<'a>(r: AreaReader<'a>) -> ValuePart
+pub fn value_here<'a>(r: AreaReader<'a>) -> AreaPart
     ensures { λ s. ⌜ partAnswer s ≡ valueSteps (now (r .entry .area)) (r .entry .at) ⌝ }
 {
     property_area::value(r.area, r.at)
@@ -41,18 +41,18 @@ fn find_in<'a, 'n>(area: &'a [u8], name: &'n [u8]) -> Found
 }
 
 // The value of the entry at a place, through a reader there.
-fn value_at(area: &[u8], at: u32) -> ValuePart
+fn value_at(area: &[u8], at: u32) -> AreaPart
     ensures { λ s. ⌜ partAnswer s ≡ valueSteps (now (area .entry)) at ⌝ }
 {
     value_here(over(area, at))
 }
 
 // What a lookup of a name shows: one reader finds its entry, another its value.
-pub fn lookup(area: &[u8], name: &[u8]) -> ValuePart
+pub fn lookup(area: &[u8], name: &[u8]) -> AreaPart
     ensures { λ s. ⌜ partAnswer s ≡ lookupSteps (now (area .entry)) (now (name .entry)) ⌝ }
 {
     match find_in(area, name) {
-        Found::Refused(why) => ValuePart::Refused(why),
+        Found::Refused(why) => AreaPart::Refused(why),
         Found::Entry { offset, compared } => value_at(area, offset),
     }
 }

@@ -8,7 +8,7 @@ use Rattle.words.specs.Words.{littleBytes, put}
 use Rattle.layout.specs.declared.refusal.Refusal.{Refusal}
 use Rattle.layout.specs.Refusals.{Answer, numberOf, Outcome, leaves}
 use Rattle.property_area.specs.declared.descent.Found.{Found}
-use Rattle.property_area.specs.declared.values.ValuePart.{ValuePart}
+use Rattle.property_area.specs.declared.values.AreaPart.{AreaPart}
 use Rattle.property_area.specs.Find.{Hit, foundAnswer}
 use Rattle.property_area.specs.Value.{Part, partAnswer}
 use Rattle.property_area.specs.Backup.{backupSteps}
@@ -25,11 +25,11 @@ module _ (answer : Answer Hit) (f : Found) (e : foundAnswer f ≡ answer) where
   found-refused why g n h r k = rw (← e, g, ← h) k
 
 -- s is what value answered
-module _ (answer : Answer Part) (s : ValuePart) (e : partAnswer s ≡ answer) where
-  pub valued-bytes : (from to : ℕ) → s ≡ ValuePart.Bytes from to → answers 0 from (to - from) ≡ partReply answer
+module _ (answer : Answer Part) (s : AreaPart) (e : partAnswer s ≡ answer) where
+  pub valued-bytes : (from to : ℕ) → s ≡ AreaPart.Bytes from to → answers 0 from (to - from) ≡ partReply answer
   valued-bytes from to g = rw (← e, g)
 
-  pub valued-refused : (why : Refusal) → s ≡ ValuePart.Refused why → (n : ℕ) → n ≡ numberOf why → (r : Answers) → r ≡ answers n 0 0 → r ≡ partReply answer
+  pub valued-refused : (why : Refusal) → s ≡ AreaPart.Refused why → (n : ℕ) → n ≡ numberOf why → (r : Answers) → r ≡ answers n 0 0 → r ≡ partReply answer
   valued-refused why g n h r k = rw (← e, g, ← h) k
 
 -- filled is the buffer before the read, after the buffer behind it, n the verdict's number

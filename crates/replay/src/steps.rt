@@ -10,8 +10,8 @@ use crate::checksum::adler32;
 use crate::records::Parts;
 use crate::records::Step;
 use layout::Verdict;
+use property_area::AreaPart;
 use property_area::Found;
-use property_area::ValuePart;
 
 // What a step answers, in the order in which a record has it; 0 where there are fewer than three.
 pub struct Answers {
@@ -58,12 +58,12 @@ fn valued(area: &[u8], entry: u32) -> Answers
     ensures { λ r. ⌜ r ≡ partReply (valueSteps (now (area .entry)) entry) ⌝ }
 {
     match property_area::value(area, entry) {
-        ValuePart::Bytes { from, to } => Answers {
+        AreaPart::Bytes { from, to } => Answers {
             first: 0,
             second: from as u32,
             third: (to - from) as u32,
         },
-        ValuePart::Refused(why) => Answers::one(why.number()),
+        AreaPart::Refused(why) => Answers::one(why.number()),
     }
 }
 

@@ -3,7 +3,7 @@ use mathlib.Core.Path.{_≡_, _∙_, ap}
 use Prim.Native.Nat.{ℕ, _+_, _-_, _*_, _/_, _%_, _^_, _<_}
 use native.Mathlib.Nat.{div-div-eq-div-mul}
 use native.Mathlib.Omega.{arith}
-use Rattle.serials.specs.Serial.{longBit, lengthUnit, longIn, oddIn, lengthIn, dirty, counterBits, updatedSerial, shortSerial}
+use Rattle.serials.specs.Serial.{longBit, lengthUnit, longIn, oddIn, lengthIn, dirty, counterBits, updatedSerial, shortSerial, positions, position}
 
 -- ---- the counter may wrap at 32 bits: its low 24 are the same
 counter-wraps : (n : ℕ) → counterBits (n % 2 ^ 32) ≡ counterBits n
@@ -64,3 +64,12 @@ unfolding updatedSerial
 updated-high serial size short =
     rw (counter-split (dirty serial + 1), no-carry serial short)
     (above (serial / (2 * longBit) % 128) ((dirty serial + 1) % longBit) size (omega arith) (omega arith))
+
+-- ---- the whole of it
+low-next : (serial : ℕ) → (dirty serial + 1) % longBit ≡ (position serial + 1) % positions * 2
+low-next serial = omega arith
+
+pub updated-whole : (serial size : ℕ) → longIn serial ≡ 0
+    → updatedSerial serial size ≡ serial / (2 * longBit) % 128 * (2 * longBit) + (position serial + 1) % positions * 2 + shortSerial size
+unfolding updatedSerial
+updated-whole serial size short = rw (counter-split (dirty serial + 1), no-carry serial short, low-next serial)

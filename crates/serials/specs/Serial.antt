@@ -1,4 +1,4 @@
--- The serial of an entry (document 01): the one place of its bits. Bit 0 is set while a value is written, bits 1 to 15 count updates, bit 16 says long, bits 17
+-- The serial of an entry (RULES 2.9, 5.8): the one place of its bits. Bit 0 is set while a value is written, bits 1 to 15 count updates, bit 16 says long, bits 17
 -- to 23 stay, the top byte holds a length.
 use Prim.Native.Nat.{ℕ, _+_, _-_, _*_, _/_, _%_, _^_}
 use Rattle.layout.specs.Layout.{messageLength}

@@ -1,4 +1,4 @@
--- The settled examples of document 01 that are marked *, computed from the definitions: one table.
+-- The settled examples of RULES 11.1 to 11.3, computed from the definitions: one table.
 use mathlib.Core.Path.{_≡_, refl}
 use mathlib.Core.List.{List, [], _∷_}
 use Prim.Native.Nat.{ℕ}
@@ -14,7 +14,7 @@ use Rattle.property_info.specs.Written.{shortStores, longStores, message, write
 use Rattle.trie.specs.Header.{headerOk}
 use Rattle.trie.specs.Trie.{visitNode, searchFrom, segmentSteps}
 use Rattle.property_area.specs.Find.{propSteps, findFrom, findSteps}
-use Rattle.property_area.specs.Value.{partSteps, valueSteps, partOrNone}
+use Rattle.property_area.specs.Value.{touchSteps, valueSteps, partOrNone}
 use Rattle.allocation.specs.Steps.{outcome}
 use Rattle.builder.specs.Fresh.{fresh}
 use Rattle.allocation.specs.Allocate.{allocate}
@@ -56,7 +56,7 @@ abbrev pub wordIn : Outcome → ℕ → ℕ → ℕ
 wordIn o at field = wordAt (bytesIn o) at field
 
 pub record Table : Type 0 where
-  -- add "a", "x": at 364 bytes accepted, used 236; at 363 refused 4, used 136, root children 112; at 263 refused 4, used 112
+  -- RULES 11.1: "a" with "x" in 364, in 363 and in 263 bytes
   pub at-364 : numberIn (oneName 364 (120 ∷ [])) ∷ usedIn (oneName 364 (120 ∷ [])) ∷ [] ≡ 0 ∷ 236 ∷ []
   pub at-363 : numberIn (oneName 363 (120 ∷ [])) ∷ usedIn (oneName 363 (120 ∷ [])) ∷ wordIn (oneName 363 (120 ∷ [])) rootAt childrenField ∷ [] ≡ 4 ∷ 136 ∷ 112 ∷ []
   pub at-263 : numberIn (oneName 263 (120 ∷ [])) ∷ usedIn (oneName 263 (120 ∷ [])) ∷ [] ≡ 4 ∷ 112 ∷ []
@@ -71,7 +71,7 @@ pub record Table : Type 0 where
       wordIn (oneName 512 (replicate 92 120)) 112 propField ∷ wordIn (oneName 512 (replicate 92 120)) 136 longOffsetField ∷ usedIn (oneName 512 (replicate 92 120)) ∷ []
       ≡ 136 ∷ 100 ∷ 332 ∷ []
   pub value-92 : partOrNone (bytesIn (oneName 512 (replicate 92 120))) (valueSteps (bytesIn (oneName 512 (replicate 92 120))) 136) ≡ replicate 92 120
-  -- update serial 0x02000000 with "345": 0x03000002; 0x0102fffe with one byte: 0x01020000; distance between these two: 1
+  -- RULES 11.3: two serials, updated; the distance between the second pair
   pub update-345 : wordIn (updateSteps (bytesIn first) ab-c (51 ∷ 52 ∷ 53 ∷ [])) 160 serialField ≡ 0x03000002
   pub serial-round : updatedSerial 0x0102fffe 1 ≡ 0x01020000
   pub distance-round : distance 0x0102fffe 0x01020000 ≡ 1
@@ -80,7 +80,7 @@ pub record Table : Type 0 where
   pub dots-a : findSteps (bytesIn (oneName 364 (120 ∷ []))) a-b ≡ refused 2
 
 pub settled : Table
-unfolding littleAt littleBytes firstIn sameBytes put run byteStores segments segmentOrder byteOrder touch textIn isLong shortValue nameOf longValue valueOf updatedSerial shortStores longStores message writeStores headerOk visitNode searchFrom segmentSteps propSteps findFrom findSteps partSteps fresh allocate nodeStores newNode hangNode addNode addSegment addPath layEntry longEntry newEntry addEntry anyEmpty nameVerdict addSteps valueVerdict updateStores updateEntry updateSteps
+unfolding littleAt littleBytes firstIn sameBytes put run byteStores segments segmentOrder byteOrder touch textIn isLong shortValue nameOf longValue valueOf updatedSerial shortStores longStores message writeStores headerOk visitNode searchFrom segmentSteps propSteps findFrom findSteps touchSteps fresh allocate nodeStores newNode hangNode addNode addSegment addPath layEntry longEntry newEntry addEntry anyEmpty nameVerdict addSteps valueVerdict updateStores updateEntry updateSteps
 settled =
     record {
       at-364 = refl;

@@ -1,4 +1,4 @@
--- What soundness promises, in document 01's words ("Area check and listing"). Objects are the linked nodes, entries and long values.
+-- What soundness promises, in the words of RULES 6. Objects are the linked nodes, entries and long values.
 -- The proofs stand in Objects, OnePath and OneTree.
 use Prim.Native.Nat.{ℕ, _≤_}
 use native.Mathlib.Omega.{arith}
@@ -13,7 +13,7 @@ use Rattle.sound.proofs.Objects.{listed-times, tree-covers, room-of, ro
 use Rattle.sound.proofs.OnePath.{one-way}
 use Rattle.sound.proofs.OneTree.{room-behind, one-below}
 
--- ---- every object, with any name and its zero, padded, lies between 112 and used; no two of these share a byte
+-- ---- RULES 6.3, 6.4: all of an object's room is between 112 and the used mark, and no byte is in two objects
 pub room-says : (used : ℕ) (tree : Tree) → firstFree ≤ used → Room used tree → Apart (objects tree) × Each (Between used) (objects tree)
 room-says used tree low room = (room-apart used tree room, room-between used tree room low)
 

@@ -1,4 +1,4 @@
--- For the promises in document 01's words: the linked nodes, entries and long values as a list.
+-- For the promises in the words of RULES 6.3 to 6.5: the linked nodes, entries and long values as a list.
 use Prim.Native.Nat.{ℕ, _+_, _%_, _≤_, _<_}
 use mathlib.Core.Path.{_≡_}
 use mathlib.Core.Bool.{cond}

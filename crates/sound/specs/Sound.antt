@@ -1,4 +1,4 @@
--- Soundness (document 01, Area check and listing): the one definition that check, listing and history cite.
+-- Soundness (RULES 6): the one definition that check, listing and history cite.
 use Prim.Native.Nat.{ℕ, _+_, _-_, _*_, _%_, _≤_, _<_}
 use mathlib.Core.Path.{_≡_}
 use mathlib.Core.Logic.{_≢_}
@@ -83,7 +83,7 @@ TreeRule prefix (node at name own left below right) =
     × TreeRule prefix left × TreeRule (prefix ++ name ++ dot ∷ []) below × TreeRule prefix right
 
 -- ---- the area
--- it has an area's header (else 8); used is a multiple of 4 from 112 to data size; root namelen, prop, left and right are zero
+-- RULES 6.1, 6.2: the header's test (else 8), the bounds of the used mark, the root's words
 pub record Front (area : List ℕ) (used : ℕ) : Type 0 where
   pub header : headerOk area ≡ true
   pub mark : headerWord area usedField ≡ used

@@ -44,6 +44,15 @@ module _ (s : List ℕ) (at b : ℕ) where
   unfolding escapedByte put
   put-hidden h high low e f = rw (← h, e, f) (refl, omega arith, simp add-assoc)
 
+-- ---- how many there are
+pub shown-size : (b : ℕ) → true ≡ printsAsIs b → 1 ≡ length (escapedByte b)
+unfolding escapedByte
+shown-size b h = rw (← h)
+
+pub hidden-size : (b : ℕ) → false ≡ printsAsIs b → 4 ≡ length (escapedByte b)
+unfolding escapedByte
+hidden-size b h = rw (← h)
+
 -- ---- what is put behind a buffer's end is dropped
 pub put-past : (s : List ℕ) (at : ℕ) (bs : List ℕ) → length s ≤ at → put s at bs ≡ s
 unfolding put

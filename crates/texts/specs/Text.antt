@@ -1,4 +1,4 @@
--- What the programs print and read (document 01, the dump and the lookup): bytes escaped, numbers, a text put into a buffer, a line put together from pieces.
+-- What the programs print and read (RULES 8): bytes escaped, numbers, a text put into a buffer, a line put together from pieces.
 use Prim.Native.Nat.{ℕ, zero, suc, _+_, _-_, _/_, _%_, min}
 use mathlib.Core.Bool.{Bool, cond, not, _&&_}
 use mathlib.Core.List.{List, [], _∷_, _++_}
@@ -6,7 +6,7 @@ use lib.ListN.{length}
 use lib.Dec.{eqb, leb, ltb}
 use Rattle.words.specs.Words.{part, firstIn, put}
 
--- ---- bytes outside 0x20 to 0x7e, and backslash, print as \x and two lower-case hex digits
+-- ---- RULES 8.1: a byte that prints as itself, and one that does not
 abbrev pub backslash : ℕ
 backslash = 92
 

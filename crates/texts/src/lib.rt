@@ -18,6 +18,16 @@ fn prints_as_is(b: u8) -> bool
     b != b'\\'
 }
 
+// How many bytes a byte takes, escaped.
+pub fn escaped_size(b: u8) -> usize
+    ensures { λ r. ⌜ r ≡ length (escapedByte b) ⌝ }
+{
+    if prints_as_is(b) {
+        return 1;
+    }
+    4
+}
+
 fn hex_digit(d: u8) -> u8
     requires { ⌜ d < 16 ⌝ }
     ensures { λ r. ⌜ r ≡ hexDigit d ⌝ }

@@ -1,4 +1,4 @@
--- Refusal 8 (document 01): length under 128 or over 131,072, magic, version.
+-- Refusal 8 (RULES 3.1): length under 128 or over 131,072, magic, version.
 use Prim.Native.Nat.{ℕ, _+_}
 use mathlib.Core.Bool.{Bool, _&&_}
 use mathlib.Core.List.{List}

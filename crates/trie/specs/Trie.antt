@@ -1,4 +1,4 @@
--- Segment order and the search of Find (document 01): a segment against a node, then over left and right, then below a node.
+-- A node's name, the search and its bound (RULES 3.5 to 3.7, 4.1): a segment against a node, then over left and right, then below a node.
 use Prim.Native.Nat.{ℕ, zero, suc, _+_, _/_}
 use mathlib.Core.Bool.{cond}
 use mathlib.Core.List.{List}
@@ -14,7 +14,7 @@ use Rattle.layout.specs.Layout.{nodeSize, namelenField, leftField, rightField, 
 use Rattle.trie.specs.declared.trie.Visited.{Visited}
 use Rattle.trie.specs.declared.trie.Searched.{Searched}
 
--- a node's name runs to the first zero within its namelen + 1 bytes
+-- RULES 3.5: a node's name
 abbrev pub nodeName : List ℕ → ℕ → Span
 nodeName area at = textIn area (placeOf at nodeSize) (wordAt area at namelenField + 1)
 

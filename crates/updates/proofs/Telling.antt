@@ -18,7 +18,7 @@ use Rattle.property_info.specs.Entry.{isLong, slotEnd, shortValue, valueOf}
 use Rattle.property_info.specs.Written.{writeStores}
 use Rattle.trie.specs.Header.{headerOk}
 use Rattle.property_area.specs.Find.{Hit, hit, byHit, findSteps}
-use Rattle.property_area.specs.Value.{bytes, partSteps, valueSteps}
+use Rattle.property_area.specs.Value.{bytes, touchSteps, valueSteps}
 use Rattle.property_area.proofs.AnswerLaws.{find-every}
 use Rattle.updates.specs.Update.{valueVerdict, backupPastArea, backupStores, slotText, updateStores, updateEntry, updateSteps, rawEntry, rawSteps}
 use Rattle.updates.proofs.Laws.{Takes, value-short, slot-size}
@@ -68,7 +68,7 @@ pub record UpdateTells (area name value after : List ℕ) : Type 0 where
 
 shown-short : (area : List ℕ) (at : ℕ) → headerOk area ≡ true → entryOk area at ≡ true → isLong area at ≡ false
     → valueSteps area at ≡ accepted (bytes (placeOf at slotField) (slotEnd area at))
-unfolding partSteps valueOf shortValue
+unfolding touchSteps valueOf shortValue
 shown-short area at h t s = rw (h, t, s) refl
 
 pub update-tells : (area name value after : List ℕ) → acceptLeaving after ≡ updateSteps area name value → UpdateTells area name value after

@@ -1,4 +1,4 @@
--- Update by name and raw update (document 01).
+-- Update by name and raw update (RULES 5.6 to 5.9).
 use Prim.Native.Nat.{ℕ, _+_}
 use mathlib.Core.Bool.{Bool, cond}
 use mathlib.Core.List.{List, _++_}
@@ -35,7 +35,7 @@ slotText area at = part area (placeOf at slotField) (slotEnd area at)
 unfoldable pub updateStores : List ℕ → ℕ → List ℕ → List Store
 updateStores area at value = backupStores (slotText area at) ++ writeStores at (wordAt area at serialField) value
 
--- long entry: 7; the new value's test; current value of 92 bytes: 6; 21 + old length above data size: 5
+-- RULES 5.6 behind find: long (7), the new value (6), a slot without a zero (6), the backup's room (5)
 unfoldable pub updateEntry : List ℕ → List ℕ → ℕ → Outcome
 updateEntry area value at =
     cond (isLong area at) (refuseLeaving area Refusal.LongEntry)
@@ -48,7 +48,7 @@ updateEntry area value at =
 unfoldable pub updateSteps : List ℕ → List ℕ → List ℕ → Outcome
 updateSteps area name value = byHit (λ number. leaves number area) (updateEntry area value) (findSteps area name)
 
--- raw update, once the backup is stored: touch the entry 5; read the serial; long 7; value of 92 or more 6; serials and value stored
+-- RULES 5.9, behind the backup's store: touched (5), the serial as it is then, long (7), the value's length (6), the stores
 unfoldable pub rawEntry : List ℕ → List ℕ → ℕ → Outcome
 rawEntry area value at =
     guard (entryOk area at) (refuseLeaving area Refusal.Damaged)
@@ -56,7 +56,7 @@ rawEntry area value at =
     (byVerdict (valueVerdict value) (refuseLeaving area)
     (acceptLeaving (run area (writeStores at (wordAt area at serialField) value)))))
 
--- 8; backup of 92 or more 6; 21 + backup length above data size 5; store the backup and a zero
+-- RULES 5.9 up to there: 8, the backup's length (6), its room in the area (5), its store
 unfoldable pub rawSteps : List ℕ → ℕ → List ℕ → List ℕ → Outcome
 rawSteps area at backup value =
     guard (headerOk area) (refuseLeaving area Refusal.BadHeader)

@@ -1,6 +1,6 @@
-//! The proved archive behind the eight calls, and behind check and listing: bindings/c/property_area.h, seen from Rust.
+//! The proved archive behind the ten calls, and behind check, listing and dump: bindings/c/property_area.h, seen from Rust.
 
-use calls::{Audit, Count, Found, Part, Side};
+use calls::{Audit, Count, Found, Part, Serial, Side};
 
 /// What C sees of a slice: a pointer and a number of bytes.
 type Bytes = *const u8;
@@ -11,6 +11,8 @@ extern "C" {
     fn pa_format(area: BytesMut, area_len: usize) -> u32;
     fn pa_find(area: Bytes, area_len: usize, name: Bytes, name_len: usize) -> Found;
     fn pa_value(area: Bytes, area_len: usize, entry: u32) -> Part;
+    fn pa_name(area: Bytes, area_len: usize, entry: u32) -> Part;
+    fn pa_serial(area: Bytes, area_len: usize, entry: u32) -> Serial;
     fn pa_add(area: BytesMut, area_len: usize, name: Bytes, name_len: usize, value: Bytes, value_len: usize) -> u32;
     fn pa_update(area: BytesMut, area_len: usize, name: Bytes, name_len: usize, value: Bytes, value_len: usize) -> u32;
     #[rustfmt::skip]
@@ -27,6 +29,17 @@ extern "C" {
     fn pa_update_distance(earlier: u32, later: u32) -> u32;
     fn pa_check(area: Bytes, area_len: usize, scratch: BytesMut, scratch_len: usize) -> u32;
     fn pa_list(area: Bytes, area_len: usize, scratch: BytesMut, scratch_len: usize, list: *mut u32, places: usize) -> Count;
+    #[rustfmt::skip]
+    fn pa_dump(
+        area: Bytes,
+        area_len: usize,
+        scratch: BytesMut,
+        scratch_len: usize,
+        list: *mut u32,
+        places: usize,
+        room: BytesMut,
+        room_len: usize,
+    ) -> Count;
 }
 
 /// A slice of no bytes goes out as NULL: the archive says that this is allowed.
@@ -63,6 +76,14 @@ impl Side for Archive {
         unsafe { pa_value(start(area), area.len(), entry) }
     }
 
+    fn name(&self, area: &mut [u8], entry: u32) -> Part {
+        unsafe { pa_name(start(area), area.len(), entry) }
+    }
+
+    fn serial(&self, area: &mut [u8], entry: u32) -> Serial {
+        unsafe { pa_serial(start(area), area.len(), entry) }
+    }
+
     fn add(&self, area: &mut [u8], name: &[u8], value: &[u8]) -> u32 {
         unsafe { pa_add(start_mut(area), area.len(), start(name), name.len(), start(value), value.len()) }
     }
@@ -91,5 +112,11 @@ impl Audit for Archive {
 
     fn list(&self, area: &mut [u8], scratch: &mut [u8], list: &mut [u32]) -> Count {
         unsafe { pa_list(start(area), area.len(), start_mut(scratch), scratch.len(), start_mut(list), list.len()) }
+    }
+
+    fn dump(&self, area: &mut [u8], scratch: &mut [u8], list: &mut [u32], room: &mut [u8]) -> Count {
+        let (bytes, places, text) = (scratch.len(), list.len(), room.len());
+        let (scratch, list, room) = (start_mut(scratch), start_mut(list), start_mut(room));
+        unsafe { pa_dump(start(area), area.len(), scratch, bytes, list, places, room, text) }
     }
 }

@@ -1,9 +1,10 @@
-//! Holds our check and listing against an independent checker, on areas that are sound, damaged and neither. README.md says what is
+//! Holds our check, listing and dump against an independent checker, on areas that are sound, damaged and neither. README.md says what is
 //! compared and how to run it.
 
 mod built;
 mod cases;
 mod faults;
+mod full;
 mod hand;
 mod hold;
 #[cfg(feature = "mutants")]
@@ -17,7 +18,7 @@ mod tally;
 mod tiny;
 
 use hold::Ours;
-use play::{play, shrink, Shown};
+use play::{play, play_full, shrink, Shown};
 use rng::Rng;
 use std::process::ExitCode;
 use std::time::{Duration, Instant};
@@ -60,7 +61,7 @@ fn side(name: &str) -> Option<Ours> {
     }
 }
 
-/// What scratch and list hold before the calls on one area of a case.
+/// What scratch, list and room hold before the calls on one area of a case.
 fn fill(seed: u64, number: usize, nth: usize) -> u64 {
     Rng::new(seed ^ (number as u64).rotate_left(16) ^ (nth as u64).rotate_left(48)).next()
 }
@@ -85,6 +86,13 @@ fn run(ours: Ours, areas: u64, seed: u64) -> bool {
         if said.elapsed() > Duration::from_secs(5) {
             println!("... {} areas in {} cases, {differences} differences", tally.areas, number + 1);
             said = Instant::now();
+        }
+    }
+    for area in full::areas(seed) {
+        if let Err(shown) = play_full(ours, &area, seed, &mut tally) {
+            differences += 1;
+            // Making it smaller would take minutes, and what it is has been said.
+            print!("DIFFERENCE: seed {seed}, area of {} bytes: {}\n{}", area.len(), full::KIND, shown.difference);
         }
     }
     println!("{tally}");

@@ -1,9 +1,9 @@
 //! Is the comparison itself any good? It has to notice every walk that is broken on purpose.
 
 use crate::hold::Ours;
-use crate::play::play;
+use crate::play::{play, play_full};
 use crate::tally::Tally;
-use crate::{cases, fill};
+use crate::{cases, fill, full};
 use broken::WALKS;
 use std::panic::set_hook;
 
@@ -24,7 +24,8 @@ fn notice(ours: Ours, areas: u64, seed: u64) -> Option<(u64, &'static str)> {
             break;
         }
     }
-    None
+    let noticed = full::areas(seed).iter().any(|area| play_full(ours, area, seed, &mut tally).is_err());
+    noticed.then_some((tally.areas, full::KIND))
 }
 
 /// Holds the checker against each broken walk; true if every one is noticed within so many areas.

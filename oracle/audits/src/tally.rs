@@ -2,7 +2,7 @@
 
 use crate::cases::OTHER_KINDS;
 use crate::faults::FAULTS;
-use crate::hold::Call;
+use crate::hold::{Call, What};
 use crate::stores::STORES;
 use checker::Fault;
 use std::collections::HashMap;
@@ -14,10 +14,12 @@ const NUMBERS: [u32; 4] = [0, 5, 8, 10];
 #[derive(Default)]
 pub struct Tally {
     pub areas: u64,
-    calls: [[u64; NUMBERS.len()]; 2],
+    /// Check, list, dump.
+    calls: [[u64; NUMBERS.len()]; 3],
     kinds: HashMap<&'static str, [u64; NUMBERS.len()]>,
     faults: [u64; Fault::ALL.len()],
     most_entries: u32,
+    longest_dump: u32,
 }
 
 fn column(refusal: u32) -> usize {
@@ -34,9 +36,19 @@ impl Tally {
         }
     }
 
-    pub fn call(&mut self, call: Call, refusal: u32, entries: u32) {
-        self.calls[usize::from(call.places.is_some())][column(refusal)] += 1;
-        self.most_entries = self.most_entries.max(entries);
+    pub fn call(&mut self, call: Call, refusal: u32, count: u32) {
+        let row = match call.what {
+            What::Check => 0,
+            What::List { .. } => {
+                self.most_entries = self.most_entries.max(count);
+                1
+            }
+            What::Dump { .. } => {
+                self.longest_dump = self.longest_dump.max(count);
+                2
+            }
+        };
+        self.calls[row][column(refusal)] += 1;
     }
 }
 
@@ -78,8 +90,9 @@ impl fmt::Display for Tally {
             row(f, &format!("  {fault:?}"), &[count])?;
         }
         writeln!(f, "\n{:42}{:>10}{:>10}{:>10}{:>10}", "calls", "accepted", "5", "8", "10")?;
-        row(f, "  check", &self.calls[0])?;
-        row(f, "  list", &self.calls[1])?;
-        write!(f, "most entries of one area: {}", self.most_entries)
+        for (name, counts) in ["  check", "  list", "  dump"].iter().zip(&self.calls) {
+            row(f, name, counts)?;
+        }
+        write!(f, "most entries of one area: {}, longest dump: {} bytes", self.most_entries, self.longest_dump)
     }
 }

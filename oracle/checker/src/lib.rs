@@ -1,66 +1,19 @@
-//! Document 01's area check and listing, written from the document's sentences and from nothing else: the judge of check and
-//! listing, as the original is the judge of the other calls.
+//! The area check and listing, written from the rules' sentences (docs/RULES.md, 6 and 7) and from nothing else, and the dump made of a
+//! listing: the judge of these three, as the original is the judge of the other calls. What a dump does with the lent room is said
+//! by bindings/c/property_area.h.
 //!
 //! It takes what room it likes, and so has another shape than code that must live in the lent scratch: a stack of what is
 //! still to do, a mark for every byte that an object takes, the names on either side as bounds passed down, and the dotted path as bytes.
 //! The scratch is only zeroed. The time is linear in the area: every byte that is read belongs to an object taken once, or ends the check.
 
-use calls::{Audit, Count};
+mod dump;
+mod fault;
+mod side;
+
+pub use dump::dump_text;
+pub use fault::Fault;
+pub use side::Checker;
 use std::cmp::Ordering;
-
-/// Why an area is not sound, by the clauses of document 01's sentence.
-#[derive(Clone, Copy, Debug, PartialEq, Eq)]
-pub enum Fault {
-    /// Used is no multiple of 4 from 112 to data size.
-    Used,
-    /// One of the root's namelen, prop, left and right is not zero.
-    Root,
-    NodeStart,
-    /// A node, padded, does not lie between 112 and used.
-    NodePlace,
-    NameEmpty,
-    NameDot,
-    /// There is a zero before namelen bytes, or none behind them.
-    NameLength,
-    /// Not greater than all that must be smaller, or not smaller than all that must be greater.
-    Order,
-    NodeShares,
-    EntryStart,
-    EntryPlace,
-    EntryName,
-    EntryShares,
-    /// All 92 bytes of a short slot, and no zero.
-    Slot,
-    ValueStart,
-    /// No zero before used, or padding beyond it.
-    ValuePlace,
-    /// The relative offset is less than the entry's own size.
-    ValueNear,
-    ValueShares,
-}
-
-impl Fault {
-    pub const ALL: [Fault; 18] = [
-        Fault::Used,
-        Fault::Root,
-        Fault::NodeStart,
-        Fault::NodePlace,
-        Fault::NameEmpty,
-        Fault::NameDot,
-        Fault::NameLength,
-        Fault::Order,
-        Fault::NodeShares,
-        Fault::EntryStart,
-        Fault::EntryPlace,
-        Fault::EntryName,
-        Fault::EntryShares,
-        Fault::Slot,
-        Fault::ValueStart,
-        Fault::ValuePlace,
-        Fault::ValueNear,
-        Fault::ValueShares,
-    ];
-}
 
 const DATA: usize = 128;
 const FIRST: usize = 112;
@@ -105,7 +58,7 @@ enum Task<'a> {
     Own { prop: usize, children: usize, name: Name<'a>, path: usize },
 }
 
-/// Document 01's segment order.
+/// The order of segments (RULES 3.4).
 fn order(a: Name, b: Name) -> Ordering {
     a.len().cmp(&b.len()).then_with(|| a.cmp(b))
 }
@@ -250,45 +203,4 @@ pub fn survey(area: &[u8]) -> Result<Vec<u32>, Fault> {
         }
     }
     Ok(survey.found)
-}
-
-/// The checker, with the greatest length of an area that is no 8.
-pub struct Checker {
-    pub longest: usize,
-}
-
-impl Checker {
-    pub const DOCUMENT: Checker = Checker { longest: 131_072 };
-
-    pub fn has_header(&self, area: &[u8]) -> bool {
-        (DATA..=self.longest).contains(&area.len()) && area[8..12] == *b"PROP" && area[12..16] == 0xfc6e_d0ab_u32.to_le_bytes()
-    }
-
-    /// The list, or the refusal: 8, then 10 for the scratch, then 5.
-    fn listed(&self, area: &[u8], scratch: &mut [u8]) -> Result<Vec<u32>, u32> {
-        if !self.has_header(area) {
-            return Err(8);
-        }
-        if scratch.len() < area.len() / 4 {
-            return Err(10);
-        }
-        scratch.fill(0);
-        survey(area).map_err(|_| 5)
-    }
-}
-
-impl Audit for Checker {
-    fn check(&self, area: &mut [u8], scratch: &mut [u8]) -> u32 {
-        self.listed(area, scratch).err().unwrap_or(0)
-    }
-
-    fn list(&self, area: &mut [u8], scratch: &mut [u8], list: &mut [u32]) -> Count {
-        let found = match self.listed(area, scratch) {
-            Ok(found) if found.len() <= list.len() => found,
-            Ok(_) => return Count { refusal: 10, count: 0 },
-            Err(refusal) => return Count { refusal, count: 0 },
-        };
-        list[..found.len()].copy_from_slice(&found);
-        Count { refusal: 0, count: found.len() as u32 }
-    }
 }

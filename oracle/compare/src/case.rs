@@ -33,6 +33,13 @@ impl<'p> Case<'p> {
         match op {
             // A store outside the area is no step.
             Op::Poke { at, .. } if self.player.area().word(at).is_none() => Ok(Answer::default()),
+            // Asked along and not chosen: the generator is not drawn from, so that cases stay what they were.
+            Op::Value { entry } if self.player.asks_along => {
+                let answer = self.player.play(op)?;
+                self.player.play(Op::Name { entry })?;
+                self.player.play(Op::Serial { entry })?;
+                Ok(answer)
+            }
             _ => self.player.play(op),
         }
     }

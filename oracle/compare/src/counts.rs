@@ -10,6 +10,7 @@ const COLUMNS: [u32; 12] = [0, 1, 2, 3, 4, 5, 6, 7, 8, 9, UNMAPPED, PANICKED];
 pub struct Counts {
     table: [[u64; COLUMNS.len()]; Kind::ALL.len()],
     calls: u64,
+    chosen: u64,
     most_compared: u64,
 }
 
@@ -18,13 +19,20 @@ impl Counts {
         let column = COLUMNS.iter().position(|&number| number == answer.refusal).unwrap_or(COLUMNS.len() - 2);
         self.table[kind as usize][column] += 1;
         self.calls += 1;
+        self.chosen += u64::from(!kind.asked_along());
         if kind == Kind::Find {
             self.most_compared = self.most_compared.max(answer.size);
         }
     }
 
+    /// All that were compared.
     pub fn calls(&self) -> u64 {
         self.calls
+    }
+
+    /// Those that cases chose. A run ends by their number, so that it plays the same cases whatever is asked along.
+    pub fn chosen(&self) -> u64 {
+        self.chosen
     }
 }
 

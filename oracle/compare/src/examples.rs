@@ -1,4 +1,4 @@
-//! Document 01's settled examples, on the original and on the twin: the two mean what the document means.
+//! The settled examples (RULES 11), on the original and on the twin: the two mean what the rules mean.
 
 use crate::area::Area;
 use crate::op::{Answer, Op};
@@ -36,6 +36,13 @@ impl Desk {
         (found.refusal, found.place, found.size)
     }
 
+    /// Start and length of an entry's name, and its serial; both accepted.
+    fn entry(&mut self, entry: u32) -> (u32, u64, u32) {
+        let (name, serial) = (self.go(Op::Name { entry }), self.go(Op::Serial { entry }));
+        assert_eq!((name.refusal, serial.refusal), (0, 0));
+        (name.place, name.size, serial.place)
+    }
+
     fn used(&self) -> u32 {
         self.area.word(0).unwrap()
     }
@@ -67,6 +74,7 @@ fn two_names() {
         assert_eq!(desk.add("ab.c", "12"), 0);
         assert_eq!((desk.data(16), desk.data(112 + 16), desk.data(136 + 4), desk.used()), (112, 136, 160, 264));
         assert_eq!((desk.find("ab.c"), desk.data(160)), ((0, 160, 2), 0x0200_0000));
+        assert_eq!(desk.entry(160), (128 + 160 + 96, 4, 0x0200_0000));
         assert_eq!(desk.add("b", "q"), 0);
         assert_eq!((desk.data(112 + 8), desk.find("b"), desk.used()), (264, (0, 288, 2), 388));
         assert_eq!(desk.find("ab"), (3, 0, 0));
@@ -83,6 +91,7 @@ fn short_and_long_values() {
         assert_eq!((desk.add("a", &"v".repeat(92)), desk.data(136), desk.used()), (0, 0x3201_0000, 332));
         let shown = desk.go(Op::Value { entry: 136 });
         assert_eq!((shown.refusal, shown.place, shown.size, desk.data(136 + 60)), (0, 128 + 236, 92, 100));
+        assert_eq!(desk.entry(136), (128 + 136 + 96, 1, 0x3201_0000));
         let mut desk = Desk::fresh(side, 4_096);
         assert_eq!(desk.add("a", "x\0y"), 0);
         assert_eq!(desk.go(Op::Value { entry: 136 }).size, 1);

@@ -3,7 +3,7 @@
 
 use crate::case::BRIEF_LENGTH;
 use crate::families::play_case;
-use crate::mutation::{all, keep_quiet, notice};
+use crate::mutation::{keep_quiet, notice, of_vectors};
 use crate::op::{Kind, Op};
 use crate::play::{Ours, Outcome, Player};
 use crate::shrink::shrink;
@@ -53,7 +53,7 @@ impl Kept {
 
 /// All that the comparison shows, on areas of every length.
 fn shown_by_comparison(twin: Ours, seed: u64) -> Outcome<BTreeSet<Shown>> {
-    let (mut shown, mut player) = (BTreeSet::new(), Player::new(twin));
+    let (mut shown, mut player) = (BTreeSet::new(), Player::of_vectors(twin));
     for number in 0.. {
         if player.counts.calls() >= COMPARISON {
             break;
@@ -67,7 +67,7 @@ fn shown_by_comparison(twin: Ours, seed: u64) -> Outcome<BTreeSet<Shown>> {
 
 /// The first cases, one after the other in one buffer, as they will be replayed; and how many they are.
 fn sample(twin: Ours, seed: u64) -> Outcome<(Kept, usize)> {
-    let (mut kept, mut player) = (Kept::default(), Player::new(twin));
+    let (mut kept, mut player) = (Kept::default(), Player::of_vectors(twin));
     for number in 0.. {
         (player.log, player.refusals) = (Vec::new(), Vec::new());
         let family = play_case(&mut player, seed, number, true)?;
@@ -81,7 +81,7 @@ fn sample(twin: Ours, seed: u64) -> Outcome<(Kept, usize)> {
 
 /// Adds each case, from a number on, that shows what is wanted and not kept often enough; what is left of this then was not found so often.
 fn add_shown(kept: &mut Kept, wanted: &mut BTreeSet<Shown>, twin: Ours, seed: u64, from: usize, brief: bool) -> Outcome {
-    let mut player = Player::new(twin);
+    let mut player = Player::of_vectors(twin);
     let most = if brief { SEARCH } else { COMPARISON };
     wanted.retain(|shown| kept.lacks(shown));
     for number in from.. {
@@ -104,9 +104,10 @@ fn add_shown(kept: &mut Kept, wanted: &mut BTreeSet<Shown>, twin: Ours, seed: u6
 fn add_telling(kept: &mut Kept, seed: u64) {
     keep_quiet();
     let file = vectors::file(&kept.steps, &Original);
-    for ours in all().filter(|ours| vectors::replay(&file, ours.side).is_ok()) {
+    for ours in of_vectors().filter(|ours| vectors::replay(&file, ours.side).is_ok()) {
         let told = |brief| {
-            notice(ours, TELLING, seed, brief).and_then(|player| shrink(ours, &player.log)).map(|(steps, _)| (brief, steps))
+            let noticed = notice(Player::of_vectors(ours), TELLING, seed, brief)?;
+            shrink(ours, &noticed.log).map(|(steps, _)| (brief, steps))
         };
         if let Some((brief, smallest)) = told(true).or_else(|| told(false)) {
             kept.steps.push(clean(brief));
@@ -137,11 +138,11 @@ pub fn write(twin: Ours, file: &str, seed: u64) -> bool {
         }
     };
     let bytes = vectors::file(&steps, &Original);
-    let told = all().filter(|ours| vectors::replay(&bytes, ours.side).is_err()).count();
+    let (told, twins) = (of_vectors().filter(|ours| vectors::replay(&bytes, ours.side).is_err()).count(), of_vectors().count());
     for (family, kind, refusal) in &missing {
         println!("not kept: {family}, {}, {refusal}", kind.name());
     }
     println!("{} of {shown} triples of family, call and refusal", shown - missing.len());
-    println!("{} records, {} bytes; they tell {told} of {} broken twins apart", steps.len(), bytes.len(), all().count());
-    fs::write(file, bytes).map_err(|error| println!("{file}: {error}")).is_ok() && missing.is_empty() && told == all().count()
+    println!("{} records, {} bytes; they tell {told} of {twins} broken twins apart", steps.len(), bytes.len());
+    fs::write(file, bytes).map_err(|error| println!("{file}: {error}")).is_ok() && missing.is_empty() && told == twins
 }

@@ -80,13 +80,13 @@ fn side(name: &str) -> Option<Ours> {
     }
 }
 
-/// Plays cases until so many calls are compared.
+/// Plays cases until they have chosen so many calls.
 fn run(ours: Ours, calls: u64, seed: u64) -> bool {
     println!("{} against {}, seed {seed}", ours.judge_name, ours.name);
     let mut player = Player::new(ours);
     let (mut differences, mut said) = (0, Instant::now());
     for number in 0.. {
-        if player.counts.calls() >= calls || differences == MOST_SHOWN {
+        if player.counts.chosen() >= calls || differences == MOST_SHOWN {
             break;
         }
         player.start();

@@ -1,7 +1,7 @@
 //! One step of a case: a call, or a store that damages the area. Steps hold their arguments, so a case can be replayed.
 
 use crate::area::Area;
-use calls::{Side, PANICKED};
+use calls::{Part, Side, PANICKED};
 use std::fmt;
 use std::panic::{catch_unwind, AssertUnwindSafe};
 
@@ -30,6 +30,12 @@ pub enum Op {
     Value {
         entry: u32,
     },
+    Name {
+        entry: u32,
+    },
+    Serial {
+        entry: u32,
+    },
     BackupRead {
         wanted: usize,
     },
@@ -52,21 +58,35 @@ pub enum Kind {
     RawUpdate,
     Find,
     Value,
+    Name,
+    Serial,
     BackupRead,
     Distance,
 }
 
 impl Kind {
-    pub const ALL: [(Kind, &'static str); 8] = [
+    pub const ALL: [(Kind, &'static str); 10] = [
         (Kind::Format, "format"),
         (Kind::Add, "add"),
         (Kind::Update, "update"),
         (Kind::RawUpdate, "raw update"),
         (Kind::Find, "find"),
         (Kind::Value, "value"),
+        (Kind::Name, "name"),
+        (Kind::Serial, "serial"),
         (Kind::BackupRead, "backup read"),
         (Kind::Distance, "distance"),
     ];
+
+    /// Whether no case chooses it: it is asked along with a value, at the same offset.
+    pub fn asked_along(self) -> bool {
+        matches!(self, Kind::Name | Kind::Serial)
+    }
+
+    /// Whether it leaves every byte of the area.
+    pub fn only_reads(self) -> bool {
+        self.asked_along() || matches!(self, Kind::Find | Kind::Value | Kind::BackupRead | Kind::Distance)
+    }
 
     #[cfg(feature = "mutants")]
     pub fn name(self) -> &'static str {
@@ -78,9 +98,9 @@ impl Kind {
 #[derive(Clone, Debug, Default, PartialEq)]
 pub struct Answer {
     pub refusal: u32,
-    /// Find: the entry's offset. Value: its start. Distance: itself.
+    /// Find: the entry's offset. Value, name: the start. Serial, distance: itself.
     pub place: u32,
-    /// Find: nodes compared. Value: its length.
+    /// Find: nodes compared. Value, name: the length.
     pub size: u64,
     /// Backup read: the caller's buffer.
     pub buffer: Vec<u8>,
@@ -99,6 +119,8 @@ impl Op {
             Op::RawUpdate { .. } => Kind::RawUpdate,
             Op::Find { .. } => Kind::Find,
             Op::Value { .. } => Kind::Value,
+            Op::Name { .. } => Kind::Name,
+            Op::Serial { .. } => Kind::Serial,
             Op::BackupRead { .. } => Kind::BackupRead,
             Op::Distance { .. } => Kind::Distance,
             Op::Poke { .. } => return None,
@@ -114,6 +136,7 @@ impl Op {
     fn answer(&self, side: &dyn Side, area: &mut Area) -> Answer {
         let bytes = area.bytes_mut();
         let refused = |refusal| Answer { refusal, ..Answer::default() };
+        let placed = |part: Part| Answer { refusal: part.refusal, place: part.start, size: part.length, buffer: Vec::new() };
         match self {
             Op::Format { .. } => refused(side.format(bytes)),
             Op::Add { name, value } => refused(side.add(bytes, name.as_bytes(), value.as_bytes())),
@@ -123,9 +146,11 @@ impl Op {
                 let found = side.find(bytes, name.as_bytes());
                 Answer { refusal: found.refusal, place: found.entry, size: found.compared, buffer: Vec::new() }
             }
-            Op::Value { entry } => {
-                let part = side.value(bytes, *entry);
-                Answer { refusal: part.refusal, place: part.start, size: part.length, buffer: Vec::new() }
+            Op::Value { entry } => placed(side.value(bytes, *entry)),
+            Op::Name { entry } => placed(side.name(bytes, *entry)),
+            Op::Serial { entry } => {
+                let read = side.serial(bytes, *entry);
+                Answer { refusal: read.refusal, place: read.serial, ..Answer::default() }
             }
             Op::BackupRead { wanted } => {
                 let mut buffer = vec![FILLER; *wanted];
@@ -148,6 +173,8 @@ impl fmt::Display for Op {
             }
             Op::Find { name } => write!(f, "find {name:?}"),
             Op::Value { entry } => write!(f, "value of {entry}"),
+            Op::Name { entry } => write!(f, "name of {entry}"),
+            Op::Serial { entry } => write!(f, "serial of {entry}"),
             Op::BackupRead { wanted } => write!(f, "backup read of {wanted} bytes"),
             Op::Distance { earlier, later } => write!(f, "distance from {earlier:#x} to {later:#x}"),
             Op::Poke { at, word } => match at.checked_sub(128) {

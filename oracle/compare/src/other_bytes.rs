@@ -1,6 +1,6 @@
 //! The same calls with names and values that are no UTF-8. The original takes text, so these are tried between our own sides.
 
-use calls::{Found, Part, Side};
+use calls::{Found, Part, Serial, Side};
 
 /// A side that is given other bytes than the case says. Dots and zeros stay, so names keep their segments; a letter becomes
 /// a byte from 128 on, and the bytes of a longer character become letters, zeros or dots.
@@ -19,6 +19,12 @@ impl Side for OtherBytes<'_> {
     }
     fn value(&self, area: &mut [u8], entry: u32) -> Part {
         self.0.value(area, entry)
+    }
+    fn name(&self, area: &mut [u8], entry: u32) -> Part {
+        self.0.name(area, entry)
+    }
+    fn serial(&self, area: &mut [u8], entry: u32) -> Serial {
+        self.0.serial(area, entry)
     }
     fn add(&self, area: &mut [u8], name: &[u8], value: &[u8]) -> u32 {
         self.0.add(area, &other(name), &other(value))

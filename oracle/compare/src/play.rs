@@ -6,7 +6,7 @@ use crate::op::{Answer, Kind, Op};
 use calls::{Side, UNMAPPED};
 use std::fmt;
 
-/// The longest area that is tried: a little over document 01's limit.
+/// The longest area that is tried: a little over the limit of RULES 3.1.
 pub const CAPACITY: usize = 131_080;
 
 /// A side, and the one it is held against: the judge, or the twin where the bytes are none the original can be given.
@@ -30,6 +30,8 @@ pub struct Difference {
     ours: Answer,
     /// Place, the judge's byte, ours. A place may lie just behind the area.
     bytes: Vec<(usize, u8, u8)>,
+    /// Whether a call that only reads left another area behind, on the judge's side.
+    changed: bool,
 }
 
 impl fmt::Display for Difference {
@@ -37,6 +39,9 @@ impl fmt::Display for Difference {
         writeln!(f, "    judge answers {}", self.judge)?;
         writeln!(f, "    ours  answers {}", self.ours)?;
         writeln!(f, "    {} bytes differ", self.bytes.len())?;
+        if self.changed {
+            writeln!(f, "    a call that only reads changed the judge's area")?;
+        }
         for (at, judge, ours) in self.bytes.iter().take(16) {
             writeln!(f, "    byte {at} (data offset {}): judge {judge:#04x}, ours {ours:#04x}", *at as i64 - 128)?;
         }
@@ -55,7 +60,7 @@ pub struct Pair {
 
 impl Pair {
     pub fn new(ours: Ours) -> Self {
-        // Ours starts at an odd address: document 01 aligns offsets, not addresses.
+        // Ours starts at an odd address: the rules align offsets, not addresses.
         Pair { ours, judge: Area::new(CAPACITY, 0), our_area: Area::new(CAPACITY, 1) }
     }
 
@@ -72,13 +77,15 @@ impl Pair {
             }
             _ => {}
         }
+        let before = op.kind().filter(|kind| kind.only_reads()).map(|_| self.judge.guarded().to_vec());
         let judge = op.perform(self.ours.judge, &mut self.judge);
         let ours = op.perform(self.ours.side, &mut self.our_area);
+        let changed = before.is_some_and(|before| before != self.judge.guarded());
         // A panic, or an error that stands for no refusal, is never right, not even on both sides.
-        if judge.refusal < UNMAPPED && judge == ours && self.judge.guarded() == self.our_area.guarded() {
+        if judge.refusal < UNMAPPED && judge == ours && !changed && self.judge.guarded() == self.our_area.guarded() {
             return Ok(judge);
         }
-        Err(Box::new(Difference { judge, ours, bytes: self.differing_bytes() }))
+        Err(Box::new(Difference { judge, ours, bytes: self.differing_bytes(), changed }))
     }
 
     fn differing_bytes(&self) -> Vec<(usize, u8, u8)> {
@@ -90,6 +97,8 @@ impl Pair {
 /// Plays a case step by step and keeps its steps.
 pub struct Player {
     pair: Pair,
+    /// Whether each value is followed by name and serial at its offset.
+    pub asks_along: bool,
     pub log: Vec<Op>,
     /// The log's calls, each with its refusal.
     pub refusals: Vec<(Kind, u32)>,
@@ -98,7 +107,14 @@ pub struct Player {
 
 impl Player {
     pub fn new(ours: Ours) -> Self {
-        Player { pair: Pair::new(ours), log: Vec::new(), refusals: Vec::new(), counts: Counts::default() }
+        let (log, refusals, counts) = (Vec::new(), Vec::new(), Counts::default());
+        Player { pair: Pair::new(ours), asks_along: true, log, refusals, counts }
+    }
+
+    /// Makes the calls that cases choose and no other: those that the fixed vectors hold.
+    #[cfg(feature = "mutants")]
+    pub fn of_vectors(ours: Ours) -> Self {
+        Player { asks_along: false, ..Player::new(ours) }
     }
 
     /// A new case starts with a buffer of zeros.

@@ -80,6 +80,7 @@ fn arguments(op: &Op) -> Vec<u8> {
         }
         Op::Find { name } => (vec![5, name.len()], [name.as_bytes(), b""]),
         Op::Value { entry } => (vec![6, *entry as usize], [b"", b""]),
+        Op::Name { .. } | Op::Serial { .. } => unreachable!("{op}: the vectors hold the eight calls that cases choose"),
         Op::BackupRead { wanted } => (vec![7, *wanted], [b"", b""]),
         Op::Distance { earlier, later } => (vec![8, *earlier as usize, *later as usize], [b"", b""]),
         Op::Poke { at, word } => (vec![9, *at, *word as usize], [b"", b""]),

@@ -1,4 +1,4 @@
-//! Document 01's layout: the sizes of its records, and where their fields stand in them.
+//! The layout of RULES 2: the sizes of its records, and where their fields stand in them.
 //!
 //! The twin and the walk count by it, and so do their broken copies. What they are held against does not: the original, the
 //! checker and the trees have numbers of their own, so that a wrong one here shows as a difference.

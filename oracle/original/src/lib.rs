@@ -1,9 +1,9 @@
-//! The original, compiled unchanged, behind the eight calls with document 01's meaning.
+//! The original, compiled unchanged, behind the ten calls, as RULES mean them.
 //!
-//! Ported calls are the original's own functions; format and update by name, which document 01 adds, are put together
-//! from its parts. Its errors become document 01's numbers here. build.rs says how its text gets in.
+//! Ported calls are the original's own functions; format and update by name, which RULES add, are put together
+//! from its parts. Its errors become the numbers of RULES 9 here. build.rs says how its text gets in.
 
-use calls::{Found, Part, Side, UNMAPPED};
+use calls::{Found, Part, Serial, Side, UNMAPPED};
 use errors::Error;
 use property_area::{PropertyAreaMap, LONGEST, SHORTEST, SLOT};
 use std::cell::Cell;
@@ -106,6 +106,12 @@ fn shown(map: &PropertyAreaMap, entry: u32, base: usize) -> Result<(usize, Vec<u
     Ok((start, bytes.to_vec()))
 }
 
+/// The name's place and its length. The original hands it out as a part of the area at `base`.
+fn named(map: &PropertyAreaMap, entry: u32, base: usize) -> Result<(usize, usize), Error> {
+    let name = map.property_info_name(entry)?.to_bytes();
+    Ok((name.as_ptr() as usize - base, name.len()))
+}
+
 /// How many nodes the search for a name that is there compares, by the counted copy.
 fn compared(area: &mut [u8], name: &str, entry: u32) -> u64 {
     COMPARED.set(0);
@@ -147,6 +153,22 @@ impl Side for Original {
         }
     }
 
+    fn name(&self, area: &mut [u8], entry: u32) -> Part {
+        let base = area.as_ptr() as usize;
+        match on_area(area, |map| named(map, entry, base).map_err(|error| number(error, UNMAPPED))) {
+            Ok((start, length)) => Part { refusal: 0, start: start as u32, length: length as u64 },
+            Err(refusal) => Part { refusal, ..Part::default() },
+        }
+    }
+
+    fn serial(&self, area: &mut [u8], entry: u32) -> Serial {
+        let serial = |map: &mut PropertyAreaMap| map.property_info(entry).map(|info| info.serial.load(Ordering::Relaxed));
+        match on_area(area, |map| serial(map).map_err(|error| number(error, UNMAPPED))) {
+            Ok(serial) => Serial { refusal: 0, serial },
+            Err(refusal) => Serial { refusal, serial: 0 },
+        }
+    }
+
     fn add(&self, area: &mut [u8], name: &[u8], value: &[u8]) -> u32 {
         refusal(on_area(area, |map| map.add(text(name)?, text(value)?).map_err(|error| number(error, 1))))
     }
@@ -163,7 +185,7 @@ impl Side for Original {
         refusal(on_area(area, |map| map.read_dirty_backup(buffer).map_err(|error| number(error, 6))))
     }
 
-    /// Not in the original. Document 01: the difference of positions, (serial mod 65,536) / 2, mod 32,768.
+    /// Not in the original. RULES 5.10: the difference of positions, (serial mod 65,536) / 2, mod 32,768.
     fn update_distance(&self, earlier: u32, later: u32) -> u32 {
         let position = |serial: u32| i64::from(serial % 65_536 / 2);
         (position(later) - position(earlier)).rem_euclid(32_768) as u32

@@ -25,7 +25,7 @@ impl PropertyAreaMap {
         Ok(())
     }
 
-    /// The stores of update by name. `backup_and_apply_write` reads the serial after the backup is stored, document 01 before
+    /// The stores of update by name. `backup_and_apply_write` reads the serial after the backup is stored, RULES 5.7 before
     /// any store; they part where a damaged area's entry lies over the backup slot. So the serial that was read goes back
     /// before the original's own write step, whose first store is that serial with its lowest bit set.
     pub(crate) fn update_with_serial(&mut self, entry: u32, serial: u32, old: &[u8], value: &str) -> Result<()> {

@@ -1,13 +1,13 @@
-//! Document 01's steps in plain, safe Rust, written from the document and not from the original.
+//! The steps of RULES in plain, safe Rust, written from the rules and not from the original.
 //!
 //! It stands in for the proved archive where there is none, it is what `broken` breaks on purpose, and it is the plain
-//! twin for timing. Every function follows one paragraph of the document, in its order.
+//! twin for timing. Every function follows one paragraph of the rules, in their order.
 
-use calls::{Found, Part, Side};
+use calls::{Found, Part, Serial, Side};
 use layout::{Entry, Header, Node, BACKUP, FIRST_FREE, LONGEST, SLOT_SIZE};
 use std::cmp::Ordering;
 
-/// Document 01's refusals, by number.
+/// The refusals of RULES 9, by number.
 #[derive(Clone, Copy, Debug, PartialEq, Eq)]
 pub enum Refusal {
     ZeroByte = 1,
@@ -259,6 +259,21 @@ pub fn value(area: &[u8], entry: u32) -> Answer<(usize, usize)> {
     Ok((at + relative, text_in(long)?.len()))
 }
 
+/// Where the name of the entry at an offset stands, as value says it: right behind the record, up to its zero, which must be there.
+pub fn name(area: &[u8], entry: u32) -> Answer<(usize, usize)> {
+    header(area)?;
+    let from = touch(area, entry, Entry::SIZE)? + Entry::SIZE;
+    let length = text_in(&area[from..])?.len();
+    Ok((from, length))
+}
+
+/// The serial of the entry at an offset, whatever its bits say.
+pub fn serial(area: &[u8], entry: u32) -> Answer<u32> {
+    header(area)?;
+    let record = touch(area, entry, Entry::SIZE)?;
+    Ok(word(area, record + Entry::SERIAL))
+}
+
 /// The backup and a zero go to the backup slot.
 fn store_backup(area: &mut [u8], backup: &[u8]) -> Answer<()> {
     if backup.len() >= SLOT_SIZE {
@@ -345,6 +360,13 @@ fn number(answer: Answer<()>) -> u32 {
     answer.err().map_or(0, |refusal| refusal as u32)
 }
 
+fn part(answer: Answer<(usize, usize)>) -> Part {
+    match answer {
+        Ok((start, length)) => Part { refusal: 0, start: start as u32, length: length as u64 },
+        Err(refusal) => Part { refusal: refusal as u32, ..Part::default() },
+    }
+}
+
 pub struct Twin;
 
 impl Side for Twin {
@@ -360,9 +382,17 @@ impl Side for Twin {
     }
 
     fn value(&self, area: &mut [u8], entry: u32) -> Part {
-        match value(area, entry) {
-            Ok((start, length)) => Part { refusal: 0, start: start as u32, length: length as u64 },
-            Err(refusal) => Part { refusal: refusal as u32, ..Part::default() },
+        part(value(area, entry))
+    }
+
+    fn name(&self, area: &mut [u8], entry: u32) -> Part {
+        part(name(area, entry))
+    }
+
+    fn serial(&self, area: &mut [u8], entry: u32) -> Serial {
+        match serial(area, entry) {
+            Ok(serial) => Serial { refusal: 0, serial },
+            Err(refusal) => Serial { refusal: refusal as u32, serial: 0 },
         }
     }
 

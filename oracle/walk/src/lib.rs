@@ -1,7 +1,8 @@
-//! The steps of crates/audit, tour, works and probes in plain, safe Rust: the twin of our own check and listing, function by function.
+//! The steps of crates/audit, tour, works and probes in plain, safe Rust: the twin of our own check and listing, function by function; and
+//! the dump that is made of a listing.
 //!
 //! It stands in for the proved archive where there is none, and it is what `broken` breaks on purpose. How the walk works, and why,
-//! stands at the top of crates/tour/src/lib.rt. It is no judge: that is `checker`, which was written from document 01 alone.
+//! stands at the top of crates/tour/src/lib.rt. It is no judge: that is `checker`, which was written from the maker's rules alone.
 
 use calls::{Audit, Count};
 use layout::{Entry, Header, Node, FIRST_FREE, LONGEST};
@@ -338,6 +339,44 @@ fn survey(area: &[u8], scratch: &mut [u8], list: &mut [u32]) -> Result<usize, u3
     walked.ok_or(DAMAGED)
 }
 
+// ---- the dump
+
+fn text_at(bytes: &[u8]) -> &[u8] {
+    let end = bytes.iter().position(|&byte| byte == 0).unwrap_or(bytes.len());
+    &bytes[..end]
+}
+
+/// The value of the entry whose record begins these bytes.
+fn value_of(entry: &[u8]) -> &[u8] {
+    if word_at(entry, Entry::SERIAL) as u32 & Entry::LONG_BIT != 0 {
+        return text_at(&entry[word_at(entry, Entry::LONG_OFFSET)..]);
+    }
+    text_at(&entry[Entry::SLOT..Entry::SIZE])
+}
+
+fn say_escaped(text: &mut Vec<u8>, bytes: &[u8]) {
+    for &byte in bytes {
+        if (0x20..=0x7e).contains(&byte) && byte != b'\\' {
+            text.push(byte);
+        } else {
+            text.extend(format!("\\x{byte:02x}").bytes());
+        }
+    }
+}
+
+fn dump_text(area: &[u8], offsets: &[u32]) -> Vec<u8> {
+    let mut text = format!("entries {} used {}\n", offsets.len(), word_at(area, Header::USED)).into_bytes();
+    for &offset in offsets {
+        let entry = &area[Header::SIZE + offset as usize..];
+        text.push(b'[');
+        say_escaped(&mut text, text_at(&entry[Entry::SIZE..]));
+        text.extend(b"]: [");
+        say_escaped(&mut text, value_of(entry));
+        text.extend(b"]\n");
+    }
+    text
+}
+
 /// The walk, with the greatest length of an area that is no 8.
 pub struct Walk {
     pub longest: usize,
@@ -368,6 +407,17 @@ impl Walk {
         }
         survey(area, scratch, list)
     }
+
+    /// The length of the text, which is then at the start of the room.
+    fn dumped(&self, area: &[u8], scratch: &mut [u8], list: &mut [u32], room: &mut [u8]) -> Result<usize, u32> {
+        let entries = self.listed(area, scratch, list)?;
+        let text = dump_text(area, &list[..entries]);
+        if room.len() < text.len() {
+            return Err(SHORT_BUFFER);
+        }
+        room[..text.len()].copy_from_slice(&text);
+        Ok(text.len())
+    }
 }
 
 impl Audit for Walk {
@@ -379,6 +429,13 @@ impl Audit for Walk {
         match self.listed(area, scratch, list) {
             Ok(entries) => Count { refusal: 0, count: entries as u32 },
             Err(refusal) => Count { refusal, count: 0 },
+        }
+    }
+
+    fn dump(&self, area: &mut [u8], scratch: &mut [u8], list: &mut [u32], room: &mut [u8]) -> Count {
+        match self.dumped(area, scratch, list, room) {
+            Ok(length) => Count { refusal: 0, count: length as u32 },
+            Err(why) => Count { refusal: why, count: 0 },
         }
     }
 }

@@ -2,84 +2,8 @@
 
 use property_area::{Area, AreaMut, Refusal};
 
-use crate::{fresh, put};
-
-/// SplitMix64.
-struct Random(u64);
-
-impl Random {
-    fn next(&mut self) -> u64 {
-        self.0 = self.0.wrapping_add(0x9e37_79b9_7f4a_7c15);
-        let mut z = self.0;
-        z = (z ^ (z >> 30)).wrapping_mul(0xbf58_476d_1ce4_e5b9);
-        z = (z ^ (z >> 27)).wrapping_mul(0x94d0_49bb_1331_11eb);
-        z ^ (z >> 31)
-    }
-
-    fn below(&mut self, bound: usize) -> usize {
-        (self.next() % bound as u64) as usize
-    }
-
-    /// A word that might be a link, a length, a serial, or anything.
-    fn word(&mut self) -> u32 {
-        match self.below(4) {
-            0 => self.below(8) as u32,
-            1 => self.below(300) as u32 * 4,
-            2 => u32::MAX - self.below(8) as u32,
-            _ => self.next() as u32,
-        }
-    }
-
-    fn bytes(&mut self, most: usize) -> Vec<u8> {
-        (0..self.below(most + 1)).map(|_| self.next() as u8).collect()
-    }
-
-    /// A dotted name of few letters; sometimes with empty segments, zero bytes, or any bytes.
-    fn name(&mut self) -> Vec<u8> {
-        match self.below(8) {
-            0 => self.bytes(12),
-            1 => (0..self.below(6)).map(|_| b"ab.\0"[self.below(4)]).collect(),
-            _ => {
-                let segments: Vec<_> =
-                    (0..1 + self.below(3)).map(|_| b"ab"[..1 + self.below(2)].repeat(1 + self.below(2))).collect();
-                segments.join(&b'.')
-            }
-        }
-    }
-
-    fn value(&mut self) -> Vec<u8> {
-        let most = [3, 95, 300][self.below(3)];
-        self.bytes(most)
-    }
-
-    /// Bytes alone; a right header before words; an area built by adds, with some words stored over it.
-    fn area(&mut self) -> Vec<u8> {
-        match self.below(4) {
-            0 => self.bytes(600),
-            1 => {
-                let mut bytes = fresh(240 + self.below(400));
-                for at in (128..bytes.len() - 3).step_by(4).chain([0]) {
-                    let word = self.word();
-                    put(&mut bytes, at, word);
-                }
-                bytes.truncate(bytes.len() - self.below(140));
-                bytes
-            }
-            kind => {
-                let mut bytes = fresh(240 + self.below(1_500));
-                for _ in 0..self.below(8) {
-                    let (name, value) = (self.name(), self.value());
-                    let _ = AreaMut::new(&mut bytes).add(name, value);
-                }
-                for _ in 0..[0, 1 + self.below(3)][kind - 2] {
-                    let (at, word) = (self.below(bytes.len() / 4) * 4, self.word());
-                    put(&mut bytes, at, word);
-                }
-                bytes
-            }
-        }
-    }
-}
+use crate::by_hand;
+use crate::random::Random;
 
 /// The answer, if its refusal is in the table.
 fn known<T>(answer: Result<T, Refusal>) -> Result<T, Refusal> {
@@ -92,24 +16,53 @@ fn reads(random: &mut Random, bytes: &[u8]) {
     let name = random.name();
     let found = known(area.find(&name));
     assert_eq!(known(area.get(&name)), found.and_then(|found| area.value(found.entry)));
-    let entry = random.word();
-    let _ = (known(area.value(entry)), known(area.name(entry)));
+    // Any offset, a likely one, and what was found.
+    let offsets = [random.word(), random.offset(bytes.len())];
+    for entry in offsets.into_iter().chain(found.map(|found| found.entry)) {
+        let _ = known(area.value(entry));
+        assert_eq!(known(area.name(entry)), by_hand::name(bytes, entry), "{entry}");
+        assert_eq!(known(area.serial(entry)), by_hand::serial(bytes, entry), "{entry}");
+    }
     let mut buffer = vec![0xee; random.below(100)];
     if known(area.backup(&mut buffer)).is_err() {
         assert!(buffer.iter().all(|&byte| byte == 0xee));
     }
 }
 
-/// Check and listing agree; what is listed is found, and shown with the same value.
-fn audits(bytes: &[u8]) -> bool {
+/// What is to be written is read in the same way.
+fn reads_before_writes(random: &mut Random, bytes: &mut [u8]) {
+    let copy = bytes.to_vec();
+    let (area, same) = (AreaMut::new(bytes), Area::new(&copy));
+    let (name, entry) = (random.name(), random.offset(copy.len()));
+    assert_eq!((area.find(&name), area.get(&name)), (same.find(&name), same.get(&name)));
+    assert_eq!((area.value(entry), area.name(entry)), (same.value(entry), same.name(entry)));
+    assert_eq!((area.serial(entry), area.check()), (same.serial(entry), same.check()));
+    let (mut one, mut other) = ([0xee; 91], [0xee; 91]);
+    assert_eq!((area.backup(&mut one), one), (same.backup(&mut other), other));
+    assert_eq!(area.entries().map(Vec::from_iter), same.entries().map(Vec::from_iter));
+}
+
+/// Check, listing and dump agree; what is listed is found, and shown with the same value; the dump is the listing, escaped.
+fn audits(random: &mut Random, bytes: &[u8]) -> bool {
     let area = Area::new(bytes);
-    let checked = known(area.check());
-    let listed = known(area.list());
-    assert_eq!(checked.err(), listed.as_ref().err().copied());
-    for (name, value) in listed.iter().flat_map(Clone::clone) {
-        assert_eq!(area.get(name), Ok(value));
+    let checked = known(area.checked());
+    let listed = known(area.entries());
+    let why = checked.err();
+    assert_eq!([known(area.check()).err(), listed.as_ref().err().copied(), known(area.dump()).err()], [why; 3]);
+    let Ok(checked) = checked else { return false };
+    let entries: Vec<_> = listed.into_iter().flatten().collect();
+    for entry in &entries {
+        let found = checked.find(entry.name).map(|found| found.entry);
+        assert_eq!((found, checked.get(entry.name)), (Ok(entry.offset), Ok(entry.value)));
+        assert_eq!((checked.name(entry.offset), checked.value(entry.offset)), (Ok(entry.name), Ok(entry.value)));
+        assert_eq!(Ok(entry.serial), by_hand::serial(bytes, entry.offset));
     }
-    checked.is_ok()
+    let name = random.name();
+    assert_eq!(checked.get(&name), area.get(&name));
+    assert!(!matches!(checked.get(&name), Err(Refusal::Damaged | Refusal::BadHeader)));
+    assert_eq!(checked.dump(), Ok(by_hand::dump(bytes, &entries)));
+    assert_eq!(checked.entries().map(Vec::from_iter), Ok(entries));
+    true
 }
 
 /// Adds and updates: what a refusal must keep, and that a sound area stays sound.
@@ -125,9 +78,21 @@ fn writes(random: &mut Random, bytes: &mut [u8], sound: bool) {
     if known(AreaMut::new(bytes).update(&name, &value)).is_err() {
         assert_eq!(bytes, before);
     }
+    sets(random, bytes);
     assert!(!sound || Area::new(bytes).check().is_ok());
     let (entry, backup) = (random.word(), random.value());
     let _ = known(AreaMut::new(bytes).raw_update(entry, backup, value));
+}
+
+/// A set is an update, else an add: the same answer and the same bytes.
+fn sets(random: &mut Random, bytes: &mut [u8]) {
+    let (name, value) = (random.name(), random.value());
+    let mut copy = bytes.to_vec();
+    let mut area = AreaMut::new(&mut copy);
+    let updated = area.update(&name, &value);
+    let expected = if updated == Err(Refusal::Missing) { area.add(&name, &value) } else { updated };
+    assert_eq!(known(AreaMut::new(bytes).set(&name, &value)), expected);
+    assert_eq!(bytes, copy);
 }
 
 #[test]
@@ -137,10 +102,11 @@ fn every_call_answers() {
     for _ in 0..20_000 {
         let mut bytes = random.area();
         reads(&mut random, &bytes);
-        let checked = audits(&bytes);
+        reads_before_writes(&mut random, &mut bytes);
+        let checked = audits(&mut random, &bytes);
         writes(&mut random, &mut bytes, checked);
         reads(&mut random, &bytes);
-        audits(&bytes);
+        audits(&mut random, &bytes);
         *(if checked { &mut sound } else { &mut unsound }) += 1;
     }
     assert!(sound > 4_000 && unsound > 4_000, "{sound} sound, {unsound} not");

@@ -1,6 +1,6 @@
 //! Listing: names and values after adds and updates, and their order.
 
-use property_area::{Area, AreaMut, Refusal};
+use property_area::{Area, AreaMut, Entry, Refusal};
 
 use crate::{fresh, listed, second, with};
 
@@ -13,7 +13,7 @@ fn a_fresh_area_is_sound_and_lists_nothing() {
     for length in [240, 241, 4_096] {
         let bytes = fresh(length);
         assert_eq!(Area::new(&bytes).check(), Ok(()));
-        assert_eq!(Area::new(&bytes).list().unwrap().len(), 0);
+        assert_eq!(Area::new(&bytes).entries().unwrap().len(), 0);
     }
 }
 
@@ -53,18 +53,35 @@ fn the_order_is_of_the_names_and_not_of_the_adds() {
 #[test]
 fn the_iterator_says_how_many_and_ends_once() {
     let bytes = second();
-    let mut entries = Area::new(&bytes).list().unwrap();
+    let mut entries = Area::new(&bytes).entries().unwrap();
     assert_eq!((entries.len(), entries.size_hint()), (2, (2, Some(2))));
-    assert_eq!(entries.next(), Some((&b"b"[..], &b"q"[..])));
+    assert_eq!(entries.next(), Some(Entry { offset: 288, name: b"b", value: b"q", serial: 0x0100_0000 }));
     assert_eq!(entries.len(), 1);
-    assert_eq!(entries.next(), Some((&b"ab.c"[..], &b"12"[..])));
+    assert_eq!(entries.next(), Some(Entry { offset: 160, name: b"ab.c", value: b"12", serial: 0x0200_0000 }));
     assert_eq!((entries.next(), entries.next()), (None, None));
+}
+
+#[test]
+fn serials_tell_updates_long_values_and_writes_not_ended() {
+    let mut bytes = with(4_096, &[("a", "0"), ("b", "begun"), ("c", &"v".repeat(92))]);
+    let earlier: Vec<_> = Area::new(&bytes).entries().unwrap().map(|entry| entry.serial).collect();
+    for value in ["1", "2", "3"] {
+        AreaMut::new(&mut bytes).update("a", value).unwrap();
+    }
+    let begun = Area::new(&bytes).find("b").unwrap().entry;
+    let at = 128 + begun as usize;
+    bytes[at] |= 1;
+    let entries: Vec<_> = Area::new(&bytes).entries().unwrap().collect();
+    let updates: Vec<_> = entries.iter().zip(&earlier).map(|(entry, &earlier)| entry.updates(earlier)).collect();
+    assert_eq!(updates, [3, 0, 0]);
+    assert_eq!(entries.iter().map(Entry::is_long).collect::<Vec<_>>(), [false, false, true]);
+    assert_eq!(entries.iter().map(Entry::is_odd).collect::<Vec<_>>(), [false, true, false]);
 }
 
 #[test]
 fn what_is_listed_outlives_the_list() {
     let bytes = second();
-    let (name, value) = Area::new(&bytes).list().unwrap().next().unwrap();
+    let Entry { name, value, .. } = Area::new(&bytes).entries().unwrap().next().unwrap();
     assert_eq!((name, value), (&b"b"[..], &b"q"[..]));
     assert!(bytes.as_ptr_range().contains(&name.as_ptr()) && bytes.as_ptr_range().contains(&value.as_ptr()));
 }
@@ -78,7 +95,7 @@ fn an_area_filled_with_the_smallest_entries() {
         let added = (1..=255_u8).filter(|&byte| byte != b'.' && area.add([byte], "").is_ok()).count();
         // A node takes 24 bytes, an entry 100. A refused add may have linked its node: that is a name without an entry.
         assert_eq!(added, (length - 240) / 124, "{length}");
-        let names: Vec<_> = Area::new(&bytes).list().unwrap().map(|(name, _)| name).collect();
+        let names: Vec<_> = Area::new(&bytes).entries().unwrap().map(|entry| entry.name).collect();
         assert_eq!(names.len(), added, "{length}");
         assert!(names.windows(2).all(|pair| pair[0] < pair[1]), "{length}");
     }

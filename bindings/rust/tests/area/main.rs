@@ -1,45 +1,26 @@
-//! The bindings, held against document 01: its settled examples, each refusal, listing, and any bytes.
+//! The bindings, held against docs/RULES.md: the settled examples, each refusal, listing, dump, and any bytes.
 
 mod any_bytes;
+mod areas;
+mod by_hand;
+mod checked;
+mod dumping;
 mod listing;
+mod random;
 mod refusals;
 mod samples;
+mod setting;
 mod settled;
 
-use property_area::{Area, AreaMut};
-
-/// The little-endian word at a place that counts from the area's first byte.
-fn word(bytes: &[u8], at: usize) -> u32 {
-    u32::from_le_bytes(bytes[at..at + 4].try_into().unwrap())
-}
+use areas::{fresh, put, with, word};
+use property_area::{Area, AreaMut, Refusal};
 
 /// The word at a place that counts from the data start.
 fn data(bytes: &[u8], at: usize) -> u32 {
     word(bytes, 128 + at)
 }
 
-fn put(bytes: &mut [u8], at: usize, word: u32) {
-    bytes[at..at + 4].copy_from_slice(&word.to_le_bytes());
-}
-
-/// A fresh area of so many bytes, whatever the buffer held before.
-fn fresh(length: usize) -> Vec<u8> {
-    let mut bytes = vec![0xee; length];
-    AreaMut::format(&mut bytes).unwrap();
-    bytes
-}
-
-/// A fresh area of so many bytes with these names and values added.
-fn with(length: usize, pairs: &[(&str, &str)]) -> Vec<u8> {
-    let mut bytes = fresh(length);
-    let mut area = AreaMut::new(&mut bytes);
-    for (name, value) in pairs {
-        area.add(name, value).unwrap();
-    }
-    bytes
-}
-
-/// Document 01's second example.
+/// The second settled example (docs/RULES.md, 11.2).
 fn second() -> Vec<u8> {
     with(4_096, &[("ab.c", "12"), ("b", "q")])
 }
@@ -47,5 +28,17 @@ fn second() -> Vec<u8> {
 /// Names and values in listing order, as text.
 fn listed(bytes: &[u8]) -> Vec<(String, String)> {
     let text = |bytes: &[u8]| String::from_utf8(bytes.to_vec()).unwrap();
-    Area::new(bytes).list().unwrap().map(|(name, value)| (text(name), text(value))).collect()
+    Area::new(bytes).entries().unwrap().map(|entry| (text(entry.name), text(entry.value))).collect()
+}
+
+fn refused<T>(answer: Result<T, Refusal>) -> u32 {
+    answer.err().map_or(0, Refusal::number)
+}
+
+/// The number that a call on an area is refused with, where it leaves every byte.
+fn kept(bytes: &mut [u8], call: impl FnOnce(&mut AreaMut) -> Result<(), Refusal>) -> u32 {
+    let before = bytes.to_vec();
+    let number = refused(call(&mut AreaMut::new(bytes)));
+    assert_eq!(bytes, before);
+    number
 }

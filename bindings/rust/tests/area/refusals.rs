@@ -4,21 +4,9 @@ use std::error::Error;
 
 use property_area::{Area, AreaMut, Refusal};
 
-use crate::{data, fresh, put, second, with};
+use crate::{data, fresh, kept, put, refused, second, with};
 
 const SLOT: std::ops::Range<usize> = 128 + 20..128 + 112;
-
-fn refused<T>(answer: Result<T, Refusal>) -> u32 {
-    answer.err().map_or(0, Refusal::number)
-}
-
-/// The number that a call on an area is refused with, where it leaves every byte.
-fn kept(bytes: &mut [u8], call: impl FnOnce(&mut AreaMut) -> Result<(), Refusal>) -> u32 {
-    let before = bytes.to_vec();
-    let number = refused(call(&mut AreaMut::new(bytes)));
-    assert_eq!(bytes, before);
-    number
-}
 
 #[test]
 fn zero_byte_1() {
@@ -62,7 +50,8 @@ fn damaged_5() {
     put(&mut bytes, 128 + 16, 113); // the root's children link is no multiple of 4
     assert_eq!(refused(Area::new(&bytes).find("b")), 5);
     assert_eq!(refused(Area::new(&bytes).check()), 5);
-    assert_eq!(refused(Area::new(&bytes).list()), 5);
+    assert_eq!(refused(Area::new(&bytes).entries()), 5);
+    assert_eq!(refused(Area::new(&bytes).dump()), 5);
     assert_eq!(kept(&mut bytes, |area| area.update("b", "v")), 5);
     assert_eq!(kept(&mut bytes, |area| area.add("new", "v")), 5);
     for entry in [1, 4_096 - 128 - 92, u32::MAX, u32::MAX - 3] {
@@ -81,15 +70,19 @@ fn circle_5() {
     assert_eq!(Area::new(&bytes).find("b").map(|found| found.compared), Ok(1));
 }
 
+/// Names and serials at offsets that are no entry's, and a name without a zero.
 #[test]
-fn names_are_read_with_care_5() {
-    let bytes = second();
-    for entry in [4_096, u32::MAX] {
+fn names_and_serials_5() {
+    let mut bytes = second();
+    for entry in [1, 162, 4_096 - 128 - 92, 4_096, u32::MAX, u32::MAX - 3] {
         assert_eq!(refused(Area::new(&bytes).name(entry)), 5, "{entry}");
+        assert_eq!(refused(Area::new(&bytes).serial(entry)), 5, "{entry}");
     }
-    assert_eq!(refused(Area::new(&[1; 300]).name(0)), 5, "no zero behind the entry");
-    assert_eq!(refused(Area::new(&[]).name(0)), 5);
     assert_eq!(Area::new(&bytes).name(160), Ok(&b"ab.c"[..]));
+    assert_eq!(Area::new(&bytes).serial(160), Ok(0x0200_0000));
+    bytes[128 + 160 + 96..].fill(b'x');
+    assert_eq!(refused(Area::new(&bytes).name(160)), 5, "no zero behind the entry");
+    assert_eq!(Area::new(&bytes).serial(160), Ok(0x0200_0000));
 }
 
 #[test]
@@ -131,7 +124,9 @@ fn bad_header_8() {
             [refused(area.find("b")), refused(area.get("")), refused(area.value(288)), refused(area.backup(&mut [0; 92]))],
             [8; 4]
         );
-        assert_eq!([refused(area.check()), refused(area.list()), refused(area.check_with(&mut []))], [8; 3]);
+        assert_eq!([refused(area.name(288)), refused(area.serial(288)), refused(area.name(1)), refused(area.serial(1))], [8; 4]);
+        assert_eq!([refused(area.check()), refused(area.entries()), refused(area.check_with(&mut []))], [8; 3]);
+        assert_eq!([refused(area.checked()), refused(area.dump()), refused(area.dump_with(&mut [], &mut [], &mut []))], [8; 3]);
         assert_eq!(kept(&mut bytes, |area| area.add("\0", "v")), 8);
         assert_eq!(kept(&mut bytes, |area| area.update("b", "v")), 8);
         assert_eq!(kept(&mut bytes, |area| area.raw_update(288, [b'v'; 92], "v")), 8);
@@ -174,9 +169,17 @@ fn every_number_has_a_case_and_a_sentence() {
     sentences.sort();
     sentences.dedup_by_key(|said| said.split(": ").nth(1).map(String::from));
     assert_eq!(sentences.len(), 10, "no two say the same");
+}
+
+/// A number that is not in the list is `Other`; what `Other` holds is made by `from_number` alone.
+#[test]
+fn numbers_that_are_not_in_the_list() {
     for number in [11, u32::MAX] {
-        assert_eq!(Refusal::from_number(number), Some(Refusal::Other(number)));
-        assert_eq!(Refusal::Other(number).number(), number);
-        assert_eq!(Refusal::Other(number).to_string(), format!("refusal {number}: the number is not in the list"));
+        let Some(refusal @ Refusal::Other(unlisted)) = Refusal::from_number(number) else {
+            panic!("{number} is in the list");
+        };
+        assert_eq!((refusal.number(), unlisted.number()), (number, number));
+        assert_eq!(refusal.sentence(), "the number is not in the list");
+        assert_eq!(refusal.to_string(), format!("refusal {number}: the number is not in the list"));
     }
 }

@@ -2,15 +2,13 @@
 
 use property_area::{Area, AreaMut, Refusal};
 
-fn sample(name: &str) -> Vec<u8> {
-    std::fs::read(format!("{}/../../samples/{name}", env!("CARGO_MANIFEST_DIR"))).unwrap()
-}
+use crate::areas::sample;
 
 #[test]
 fn the_fresh_one_is_sound_and_empty() {
     let bytes = sample("fresh.area");
     assert_eq!(Area::new(&bytes).check(), Ok(()));
-    assert_eq!(Area::new(&bytes).list().unwrap().count(), 0);
+    assert_eq!(Area::new(&bytes).entries().unwrap().count(), 0);
 }
 
 #[test]
@@ -18,7 +16,7 @@ fn the_inverters_settings_show_their_last_update() {
     let bytes = sample("inverter.area");
     let area = Area::new(&bytes);
     assert_eq!(area.check(), Ok(()));
-    assert_eq!(area.list().unwrap().count(), 14);
+    assert_eq!(area.entries().unwrap().count(), 14);
     assert_eq!(area.get("inverter.limit"), Ok(&b"100"[..]));
     assert_eq!(area.get("inverter.firmware"), Ok(&b"3.12.1"[..]));
     assert_eq!(area.get("site.contact"), Ok(&b"+31 6 5550 0182"[..]));
@@ -30,7 +28,7 @@ fn the_inverters_settings_show_their_last_update() {
 #[test]
 fn no_file_has_more_entries() {
     let mut bytes = sample("most.area");
-    assert_eq!(Area::new(&bytes).list().unwrap().count(), 526);
+    assert_eq!(Area::new(&bytes).entries().unwrap().count(), 526);
     assert_eq!(AreaMut::new(&mut bytes).add("526", ""), Err(Refusal::NoRoom));
 }
 
@@ -39,7 +37,7 @@ fn the_pulses_fill_their_area() {
     let mut bytes = sample("pulses.area");
     let area = Area::new(&bytes);
     assert_eq!(area.check(), Ok(()));
-    let names: Vec<_> = area.list().unwrap().map(|(name, _)| name.to_vec()).collect();
+    let names: Vec<_> = area.entries().unwrap().map(|entry| entry.name.to_vec()).collect();
     assert_eq!(names.len(), names.iter().filter(|name| name.starts_with(b"pulse.meter")).count());
     assert_eq!(area.get("pulse.meter1.m06.d21"), Ok(&b"18480"[..]));
     assert_eq!(AreaMut::new(&mut bytes).add("pulse.meter2.m12.d28", "0"), Err(Refusal::NoRoom));
@@ -50,6 +48,6 @@ fn the_damaged_one_is_refused() {
     let bytes = sample("damaged.area");
     let area = Area::new(&bytes);
     assert_eq!(area.check(), Err(Refusal::Damaged));
-    assert_eq!(area.list().err(), Some(Refusal::Damaged));
+    assert_eq!(area.entries().err(), Some(Refusal::Damaged));
     assert_eq!(area.get("inverter.limit"), Err(Refusal::Damaged));
 }

@@ -1,4 +1,4 @@
-//! Document 01's settled examples, in its order.
+//! The settled examples (docs/RULES.md, 11), in their order.
 
 use property_area::{update_distance, Area, AreaMut, Found, Refusal};
 

@@ -1,5 +1,5 @@
 -- `dump` leaves what `dumpSteps` says: the text of the listing, or its refusal. Assumes nothing.
-use Rattle.dumping.proofs.Laws.{dump-fits, dump-counts, dump-marked, dump-entries, dump-refused}
+use Rattle.dumping.proofs.Laws.{tells-fits, tells-counts, tells-marked, file-lists, dump-entries, dump-refused}
 use borrow.Author.Needs.{needs}
 use Rattle.dumping.proofs.dump.Statement.{statement}
 use Rattle.dumping.proofs.dump.Tie as tie
@@ -11,13 +11,13 @@ enum-known-count : tie.Need-enum-known-count
 enum-known-count c = search needs
 
 slice-reshare-prefix-say-listing : tie.Need-slice-reshare-prefix-say-listing
-slice-reshare-prefix-say-listing c = dump-fits _ _ _ _ _ _ (c .before .before .before .before .before .before .before .list-file .ensures) _ (c .before .count .given .1)
+slice-reshare-prefix-say-listing c = tells-fits _ _ _ _ _ _ (file-lists _ _ _ _ _ _ (c .before .before .before .before .before .before .before .list-file .ensures) _ (c .before .count .given .1))
 
 slice-aggregate-say-listing : tie.Need-slice-aggregate-say-listing
-slice-aggregate-say-listing c = dump-counts _ _ _ _ _ _ (c .before .before .before .before .before .before .before .before .list-file .ensures) _ (c .before .before .count .given .1)
+slice-aggregate-say-listing c = tells-counts _ _ _ _ _ _ (file-lists _ _ _ _ _ _ (c .before .before .before .before .before .before .before .before .list-file .ensures) _ (c .before .before .count .given .1))
 
 say-listing-requires : tie.Need-say-listing-requires
-say-listing-requires c κs = dump-marked _ _ _ _ _ _ (c .before .before .before .before .before .before .before .before .before .list-file .ensures) _ (c .before .before .before .count .given .1)
+say-listing-requires c κs = tells-marked _ _ _ _ _ _ (file-lists _ _ _ _ _ _ (c .before .before .before .before .before .before .before .before .before .list-file .ensures) _ (c .before .before .before .count .given .1))
 
 enum-known-why : tie.Need-enum-known-why
 enum-known-why c = search needs

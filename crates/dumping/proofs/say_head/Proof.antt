@@ -4,6 +4,12 @@ use borrow.Author.Needs.{needs}
 use Rattle.dumping.proofs.say_head.Statement.{statement}
 use Rattle.dumping.proofs.say_head.Tie as tie
 
+word-requires : tie.Need-word-requires
+word-requires c κs = search needs
+
+cast-used : tie.Need-cast-used
+cast-used c = search needs
+
 slice-aggregate-say : tie.Need-slice-aggregate-say
 slice-aggregate-say c = search needs
 
@@ -38,12 +44,15 @@ returns c =
     let between = used .before .before .before .before in
     let count = between .before .before .before .before .before in
     let first = count .before .before .before .before in
-    said-then _ _ _ _ (said-then _ _ _ _ (said-then _ _ _ _ (said-then _ _ _ _ (first .say .ensures) (count .say-number .ensures)) (between .say2 .ensures)) (used .say-number2 .ensures)) (last .say3 .ensures)
+    let marked = rw (first .before .before .before .word .ensures) at (used .say-number2 .ensures) in
+    said-then _ _ _ _ (said-then _ _ _ _ (said-then _ _ _ _ (said-then _ _ _ _ (first .say .ensures) (count .say-number .ensures)) (between .say2 .ensures)) marked) (last .say3 .ensures)
 
 pub say-head-spec : {M : Type 1} → statement M
 say-head-spec =
     tie.close
     (tie.spec
+    word-requires
+    cast-used
     slice-aggregate-say
     say-requires
     say-number-requires

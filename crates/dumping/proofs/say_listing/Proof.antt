@@ -4,12 +4,6 @@ use borrow.Author.Needs.{needs}
 use Rattle.dumping.proofs.say_listing.Statement.{statement}
 use Rattle.dumping.proofs.say_listing.Tie as tie
 
-word-requires : tie.Need-word-requires
-word-requires c κs = search needs
-
-cast-used : tie.Need-cast-used
-cast-used c = search needs
-
 say-head-requires : tie.Need-say-head-requires
 say-head-requires c κs = search needs
 
@@ -20,11 +14,9 @@ same-length : tie.Need-same-length
 same-length c = search needs
 
 returns : tie.Need-returns
-returns c =
-    let head = c .before .before .before .before .before .before in
-    said-then _ _ _ _ (rw (head .before .before .word .ensures) at (head .say-head .ensures)) (c .before .before .say-entries .ensures)
+returns c = said-then _ _ _ _ (c .before .before .before .before .before .before .say-head .ensures) (c .before .before .say-entries .ensures)
 
 pub say-listing-spec : {M : Type 1} → statement M
 say-listing-spec =
     tie.close
-    (tie.spec word-requires cast-used say-head-requires say-entries-requires same-length returns)
+    (tie.spec say-head-requires say-entries-requires same-length returns)

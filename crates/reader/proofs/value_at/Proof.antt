@@ -40,11 +40,11 @@ use denote.Triple.Clauses.{ensured, lasts}
 use Rattle.layout.specs.Refusals.{Answer}
 use Rattle.property_area.specs.Value.{Part, partAnswer, valueSteps}
 use Rattle.reader.specs.declared.AreaReader.{AreaReader}
-use Rattle.property_area.specs.declared.values.ValuePart.{ValuePart}
+use Rattle.property_area.specs.declared.values.AreaPart.{AreaPart}
 use Rattle.reader.proofs.AreaReader as T
 use Rattle.reader.proofs.AreaReader.Laws as T′
-use Rattle.property_area.proofs.values.ValuePart as S
-use Rattle.property_area.proofs.values.ValuePart.Laws as S′
+use Rattle.property_area.proofs.values.AreaPart as S
+use Rattle.property_area.proofs.values.AreaPart.Laws as S′
 use Rattle.reader.proofs.over as over
 use Rattle.reader.proofs.over.Symbol as over-def
 use Rattle.reader.proofs.over.Symbol.{name as #reader·over}
@@ -132,11 +132,11 @@ module _ {M : Type 1} (𝓤 : URA M) (H : Heap 𝓤) (A : Atoms 𝓤) (mem : Mem
           qed W (‵ (B κs .own r (u ∷ [])) ∷ (‵ (flft κ q) ⊛ ‵ ftrue) ∷ []) ∵
           nothing ! $ move ! (1 ∷ 0 ∷ []) $ fjoin ! $ move ! (1 ∷ 0 ∷ []) $ join ! $ frame ! $ done !
 
-      value-here-said : (r : AreaReader) (t : ValuePart)
+      value-here-said : (r : AreaReader) (t : AreaPart)
           → ent 𝓤 (ensured 𝓤 H A value-here.ended (value-here.clauses 𝓤 H A mem run) κs (r, tt) tt t) (fact 𝓤 (partAnswer t ≡ valueSteps (now (r .area)) (r .at)))
       value-here-said r t = exE 𝓤 _ (λ ws. snd∗ 𝓤 (sem 𝓤 H A (lasts value-here.ended κs (r, tt) ws)) (fact 𝓤 (partAnswer t ≡ valueSteps (now (r .area)) (r .at))))
 
-      exits : (t : ValuePart) (u : Val) → partAnswer t ≡ found → ent 𝓤 (⋆ 𝓤 H A (‵ (S.the-row .own t (u ∷ [])) ∷ (‵ (flft κ q) ⊛ ‵ ftrue) ∷ ‵ Owned ∷ [])) (Post u)
+      exits : (t : AreaPart) (u : Val) → partAnswer t ≡ found → ent 𝓤 (⋆ 𝓤 H A (‵ (S.the-row .own t (u ∷ [])) ∷ (‵ (flft κ q) ⊛ ‵ ftrue) ∷ ‵ Owned ∷ [])) (Post u)
       exits t u e =
           qed W (‵ (S.the-row .own t (u ∷ [])) ∷ (‵ (flft κ q) ⊛ ‵ ftrue) ∷ ‵ Owned ∷ []) ∵
           suffices ! _ (ends-at 𝓤 H A value-at.ended stayed (value-at.clauses 𝓤 H A mem run) W ((κs, qs, tt, (s, (n, tt)), at), tt) u t (tt, (tt, tt)) (tt, (tt, tt))) $ says ! e $
@@ -158,7 +158,7 @@ module _ {M : Type 1} (𝓤 : URA M) (H : Heap 𝓤) (A : Atoms 𝓤) (mem : Mem
             land ! (from ! (stop !)) (init ! 3 refl (LL.lawful (T.the-type αᵉ) (T′.the-laws αᵉ) 𝓤 H A W .typed r _ is .0)) $
             use2 W (raw (Showing .pre (to-value-here r u))) (goes-value-here r u) $
             calls-at ! fm Showing known-value-here (to-value-here r u) (and-then ! (load ! (from ! (stop !)) (look ! 2 refl)) (no-more !)) (λ u′.
-            use1 W (later (some (λ (t : ValuePart). ((‵ (flft κ q) ⊛ ‵ ftrue) ⊛ ‵ (S.the-row .own t (u′ ∷ [])))
+            use1 W (later (some (λ (t : AreaPart). ((‵ (flft κ q) ⊛ ‵ ftrue) ⊛ ‵ (S.the-row .own t (u′ ∷ [])))
             ⊛ raw (ensured 𝓤 H A value-here.ended (value-here.clauses 𝓤 H A mem run) κs (r, tt) tt t)))) (id⊢ 𝓤 _) $ await ! tt $ pick ! (λ t.
             split ! $ move ! (1 ∷ []) $ use1 W (raw (fact 𝓤 (partAnswer t ≡ valueSteps (now (r .area)) (r .at)))) (value-here-said r t) $
             heard ! (partAnswer t ≡ valueSteps (now (r .area)) (r .at)) (λ e′. split ! $ move ! (1 ∷ []) $

@@ -45,11 +45,11 @@ use denote.Triple.Clauses.{ensured, lasts}
 use Rattle.layout.specs.Refusals.{Answer}
 use Rattle.property_area.specs.Value.{Part, partAnswer, valueSteps}
 use Rattle.reader.specs.declared.AreaReader.{AreaReader}
-use Rattle.property_area.specs.declared.values.ValuePart.{ValuePart}
+use Rattle.property_area.specs.declared.values.AreaPart.{AreaPart}
 use Rattle.reader.proofs.AreaReader as T
 use Rattle.reader.proofs.AreaReader.Laws as T′
-use Rattle.property_area.proofs.values.ValuePart as S
-use Rattle.property_area.proofs.values.ValuePart.Laws as S′
+use Rattle.property_area.proofs.values.AreaPart as S
+use Rattle.property_area.proofs.values.AreaPart.Laws as S′
 use Rattle.property_area.proofs.value as value
 use Rattle.property_area.proofs.value.Symbol as value-def
 use Rattle.property_area.proofs.value.Symbol.{name as #property-area·value}
@@ -126,10 +126,10 @@ module _ {M : Type 1} (𝓤 : URA M) (H : Heap 𝓤) (A : Atoms 𝓤) (mem : Mem
           move ! (2 ∷ 0 ∷ []) $ use2 W (raw (Value .pre to)) asked $ frame ! $ done !)
 
       -- of the callee's `ensured`, the clause alone: it has no `&mut`, so what is said of last values is dropped
-      said : (r : ValuePart) → ent 𝓤 (ensured 𝓤 H A value.ended (value.clauses 𝓤 H A mem run) κs (d .area, (d .at, tt)) tt r) (fact 𝓤 (partAnswer r ≡ found))
+      said : (r : AreaPart) → ent 𝓤 (ensured 𝓤 H A value.ended (value.clauses 𝓤 H A mem run) κs (d .area, (d .at, tt)) tt r) (fact 𝓤 (partAnswer r ≡ found))
       said r = exE 𝓤 _ (λ ws. snd∗ 𝓤 (sem 𝓤 H A (lasts value.ended κs (d .area, (d .at, tt)) ws)) (fact 𝓤 (partAnswer r ≡ found)))
 
-      exits : (r : ValuePart) (u : Val) → partAnswer r ≡ found → ent 𝓤 (⋆ 𝓤 H A (‵ (S.the-row .own r (u ∷ [])) ∷ (‵ (flft κ q) ⊛ ‵ ftrue) ∷ ‵ Own ∷ [])) (Post u)
+      exits : (r : AreaPart) (u : Val) → partAnswer r ≡ found → ent 𝓤 (⋆ 𝓤 H A (‵ (S.the-row .own r (u ∷ [])) ∷ (‵ (flft κ q) ⊛ ‵ ftrue) ∷ ‵ Own ∷ [])) (Post u)
       exits r u e =
           qed W (‵ (S.the-row .own r (u ∷ [])) ∷ (‵ (flft κ q) ⊛ ‵ ftrue) ∷ ‵ Own ∷ []) ∵
           suffices ! _ (ends-at 𝓤 H A value-here.ended stayed (value-here.clauses 𝓤 H A mem run) W ((κs, qs, tt, (d, tt), (mach ∷ [], tt)), tt) u r (tt, tt) (tt, tt)) $ says ! e $
@@ -145,7 +145,7 @@ module _ {M : Type 1} (𝓤 : URA M) (H : Heap 𝓤) (A : Atoms 𝓤) (mem : Mem
             assigns ! (of-opd ! (load ! (from ! (fld ! refl (stop !))) (look-in ! 4 (sub ! 1 refl (whole !))))) (from ! (stop !)) (init ! 0 refl (tt, wt .1 .1 .0)) $
             move ! (8 ∷ []) $ use1 W (raw (Value .pre to) ⊛ ‵ Own) (apart (wt .1 .1 .0 .fits)) $ split ! $
             calls-at ! fm Value known to (and-then ! (load ! (from ! (stop !)) (look ! 4 refl)) (and-then ! (load ! (from ! (stop !)) (look ! 2 refl)) (no-more !))) (λ u.
-            use1 W (later (some (λ (r : ValuePart). ((‵ (flft κ q) ⊛ ‵ ftrue) ⊛ ‵ (S.the-row .own r (u ∷ [])))
+            use1 W (later (some (λ (r : AreaPart). ((‵ (flft κ q) ⊛ ‵ ftrue) ⊛ ‵ (S.the-row .own r (u ∷ [])))
             ⊛ raw (ensured 𝓤 H A value.ended (value.clauses 𝓤 H A mem run) κs (d .area, (d .at, tt)) tt r)))) (id⊢ 𝓤 _) $ await ! tt $ pick ! (λ r.
             split ! $ move ! (1 ∷ []) $ use1 W (raw (fact 𝓤 (partAnswer r ≡ found))) (said r) $ heard ! (partAnswer r ≡ found) (λ e. split ! $ move ! (1 ∷ []) $
             -- [the result; the token; what the reader owns; _3; …; _2; …; _1; …; room for _0; …]

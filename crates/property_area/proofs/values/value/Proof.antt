@@ -3,7 +3,7 @@ use mathlib.Core.Path.{sym, _∙_}
 use borrow.Author.Tests.{not-true, not-false}
 use Rattle.layout.specs.Layout.{entrySize}
 use Rattle.layout.proofs.Laws.{touch-in}
-use Rattle.property_area.proofs.ValueLaws.{part-header, part-out, part-bytes, part-broken}
+use Rattle.property_area.proofs.ValueLaws.{touch-header, touch-out, part-bytes, part-broken}
 use borrow.Author.Needs.{needs}
 use Rattle.property_area.proofs.values.value.Statement.{statement}
 use Rattle.property_area.proofs.values.value.Tie as tie
@@ -12,7 +12,7 @@ header-ok-requires : tie.Need-header-ok-requires
 header-ok-requires c κs = search needs
 
 returns : tie.Need-returns
-returns c = part-header _ _ _ (sym (c .before .header-ok .ensures) ∙ not-true _ (c .if1 .taken))
+returns c = touch-header _ _ _ (sym (c .before .header-ok .ensures) ∙ not-true _ (c .if1 .taken))
 
 touched-requires : tie.Need-touched-requires
 touched-requires c κs = search needs
@@ -20,7 +20,7 @@ touched-requires c κs = search needs
 returns-2 : tie.Need-returns-2
 returns-2 c =
     let t = c .before .before in
-    part-out _ _ _ (sym (t .before .header-ok .ensures) ∙ not-false _ (t .if1 .left)) (sym (c .before .touched .ensures) ∙ not-true _ (c .if2 .taken))
+    touch-out _ _ _ (sym (t .before .header-ok .ensures) ∙ not-false _ (t .if1 .left)) (sym (c .before .touched .ensures) ∙ not-true _ (c .if2 .taken))
 
 property-value-requires : tie.Need-property-value-requires
 property-value-requires c κs = touch-in _ entrySize _ (sym (c .before .touched .ensures) ∙ not-false _ (c .if2 .left))

@@ -1,5 +1,5 @@
 -- `value_bytes` hands back the part that `partOrNone` says. Assumes nothing.
-use Rattle.property_area.proofs.ValueLaws.{part-in, value-bytes, value-refused}
+use Rattle.property_area.proofs.ValueLaws.{value-stands, part-in, shown-bytes, shown-refused}
 use borrow.Author.Needs.{needs}
 use Rattle.property_area.proofs.values.value_bytes.Statement.{statement}
 use Rattle.property_area.proofs.values.value_bytes.Tie as tie
@@ -17,19 +17,19 @@ slice-aggregate-result : tie.Need-slice-aggregate-result
 slice-aggregate-result c = search needs
 
 returns : tie.Need-returns
-returns c = value-refused _ _ _ (c .before .before .before .value .ensures) _ (c .before .enum-told .given .1)
+returns c = shown-refused _ _ _ (c .before .before .before .value .ensures) _ (c .before .enum-told .given .1)
 
 sub-result : tie.Need-sub-result
-sub-result c = part-in _ _ _ (c .before .before .before .value .ensures) _ _ (c .before .place .given .1) .low
+sub-result c = part-in _ _ _ (value-stands _ _) _ (c .before .before .before .value .ensures) _ _ (c .before .place .given .1) .low
 
 part-result-start : tie.Need-part-result-start
-part-result-start c = part-in _ _ _ (c .before .before .before .value .ensures) _ _ (c .before .place .given .1) .low
+part-result-start c = part-in _ _ _ (value-stands _ _) _ (c .before .before .before .value .ensures) _ _ (c .before .place .given .1) .low
 
 part-result-end : tie.Need-part-result-end
-part-result-end c = part-in _ _ _ (c .before .before .before .value .ensures) _ _ (c .before .place .given .1) .high
+part-result-end c = part-in _ _ _ (value-stands _ _) _ (c .before .before .before .value .ensures) _ _ (c .before .place .given .1) .high
 
 returns-2 : tie.Need-returns-2
-returns-2 c = value-bytes _ _ _ (c .before .before .before .before .value .ensures) _ _ (c .before .before .place .given .1)
+returns-2 c = shown-bytes _ _ _ (c .before .before .before .before .value .ensures) _ _ (c .before .before .place .given .1)
 
 pub value-bytes-spec : {M : Type 1} → statement M
 value-bytes-spec =

@@ -1,6 +1,6 @@
 -- `steps::valued` gives what `partReply` makes of value's answer; both its numbers fit 32 bits, since the area's length does. Assumes nothing.
 use native.Mathlib.Omega.{arith}
-use Rattle.property_area.proofs.ValueLaws.{part-in}
+use Rattle.property_area.proofs.ValueLaws.{value-stands, part-in}
 use Rattle.replay.proofs.StepLaws.{valued-bytes, valued-refused}
 use borrow.Author.Needs.{needs}
 use Rattle.replay.proofs.steps.valued.Statement.{statement}
@@ -14,15 +14,15 @@ enum-known-from c = search needs
 
 cast-t8 : tie.Need-cast-t8
 cast-t8 c =
-    let s = part-in _ _ _ (c .before .before .before .value .ensures) _ _ (c .before .from .given .1) in
+    let s = part-in _ _ _ (value-stands _ _) _ (c .before .before .before .value .ensures) _ _ (c .before .from .given .1) in
     omega (arith, s .low, s .high, s .small)
 
 sub-t9 : tie.Need-sub-t9
-sub-t9 c = part-in _ _ _ (c .before .before .before .value .ensures) _ _ (c .before .from .given .1) .low
+sub-t9 c = part-in _ _ _ (value-stands _ _) _ (c .before .before .before .value .ensures) _ _ (c .before .from .given .1) .low
 
 cast-t10 : tie.Need-cast-t10
 cast-t10 c =
-    let s = part-in _ _ _ (c .before .before .before .value .ensures) _ _ (c .before .from .given .1) in
+    let s = part-in _ _ _ (value-stands _ _) _ (c .before .before .before .value .ensures) _ _ (c .before .from .given .1) in
     omega (arith, s .low, s .high, s .small)
 
 enum-known-why : tie.Need-enum-known-why
