@@ -18,13 +18,16 @@ updated-position serial size = omega (arith, updated-low serial size)
 pub position-after : (sizes : List ℕ) (serial : ℕ) → position (serialAfter serial sizes) ≡ (position serial + length sizes) % positions
 unfolding serialAfter
 position-after [] serial = omega arith
-position-after (size ∷ sizes) serial = omega (arith, position-after sizes (updatedSerial serial size), updated-position serial size)
+position-after (size ∷ sizes) serial = position-after sizes _ ∙ one-more _ (updated-position serial _)
+  where
+    one-more : (moved : ℕ) → moved ≡ (position serial + 1) % positions → (moved + length sizes) % positions ≡ (position serial + length (size ∷ sizes)) % positions
+    one-more moved e = omega (arith, e)
 
 -- ---- one list of updates, then another
 pub after-both : (a b : List ℕ) (serial : ℕ) → serialAfter serial (a ++ b) ≡ serialAfter (serialAfter serial a) b
 unfolding serialAfter
 after-both [] b serial = refl
-after-both (size ∷ a) b serial = after-both a b (updatedSerial serial size)
+after-both (size ∷ a) b serial = after-both a b _
 
 -- ---- a short entry's serial says short after each of them, and its bits 17 to 23 stay
 abbrev high : ℕ → ℕ
@@ -33,12 +36,12 @@ high serial = serial / (2 * longBit) % 128
 after-short : (sizes : List ℕ) (serial : ℕ) → longIn serial ≡ 0 → longIn (serialAfter serial sizes) ≡ 0
 unfolding serialAfter
 after-short [] serial short = short
-after-short (size ∷ sizes) serial short = after-short sizes (updatedSerial serial size) (updated-short serial size)
+after-short (size ∷ sizes) serial short = after-short sizes _ (updated-short serial _)
 
 after-high : (sizes : List ℕ) (serial : ℕ) → longIn serial ≡ 0 → high (serialAfter serial sizes) ≡ high serial
 unfolding serialAfter
 after-high [] serial short = refl
-after-high (size ∷ sizes) serial short = after-high sizes (updatedSerial serial size) (updated-short serial size) ∙ updated-high serial size short
+after-high (size ∷ sizes) serial short = after-high sizes _ (updated-short serial _) ∙ updated-high serial _ short
 
 -- ---- so after the last one it is
 pub after-whole : (sizes : List ℕ) (size serial : ℕ) → longIn serial ≡ 0

@@ -21,13 +21,13 @@ pub after-whole : (sizes : List ℕ) (size serial : ℕ) → longIn serial ≡ 0
     → serialAfter serial (sizes ++ size ∷ []) ≡ serial / (2 * longBit) % 128 * (2 * longBit) + (position serial + length sizes + 1) % positions * 2 + shortSerial size
 after-whole = laws.after-whole
 
--- ---- the distance is the number of updates made between two serials, if that is below 32,768
-pub distance-counts : (sizes : List ℕ) (serial : ℕ) → length sizes < positions → distance serial (serialAfter serial sizes) ≡ length sizes
-distance-counts sizes serial few = omega (arith, position-after sizes serial)
-
--- ---- and from there on it goes round: 32,768 updates look like none
+-- ---- the distance is the number of updates made between two serials, and goes round: 32,768 updates look like none
 pub distance-round : (sizes : List ℕ) (serial : ℕ) → distance serial (serialAfter serial sizes) ≡ length sizes % positions
 distance-round sizes serial = omega (arith, position-after sizes serial)
+
+-- ---- so below 32,768 it is their number
+pub distance-counts : (sizes : List ℕ) (serial : ℕ) → length sizes < positions → distance serial (serialAfter serial sizes) ≡ length sizes
+distance-counts sizes serial few = omega (arith, distance-round sizes serial)
 
 -- ---- no second outcome
 pub one-distance : (earlier later r s : ℕ) → r ≡ distance earlier later → s ≡ distance earlier later → r ≡ s

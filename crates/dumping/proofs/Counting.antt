@@ -56,11 +56,15 @@ module _ (area : List ℕ) (at : ℕ) where
       let v = part-size area few (valueSteps area at) _ refl in
       omega (arith, line-size _ _ refl refl)
 
--- ---- the first line, said into a buffer that has room for it
+-- ---- the first line: its numbers have 20 digits at most
+pub head-few : (count used : ℕ) → length (headText count used) ≤ headMax
+head-few count used = simp length-append (omega (arith, decimal-few digitsMax count, decimal-few digitsMax used))
+
+-- said into a buffer that has room for it
 pub head-size : (count used : ℕ) (out : List ℕ) (next : ℕ) (after : List ℕ) → length out ≡ headMax → saying next after ≡ said out 0 (headText count used)
     → (next ≡ length (headText count used)) × (next ≤ headMax)
 head-size count used out next after l e =
-    let few : length (headText count used) ≤ headMax = simp length-append (omega (arith, decimal-few digitsMax count, decimal-few digitsMax used)) in
+    let few = head-few count used in
     let n = said-stands out 0 (headText count used) next after e (omega arith) .0 in
     (omega arith, omega arith)
 

@@ -12,10 +12,10 @@ use Rattle.sound.specs.Sound.{ValueAt, EntryAt, TreeAt, Sound}
 use Rattle.sound.proofs.Counting.{valueTaken, entryTaken, taken, taken-few}
 use Rattle.finding.specs.Look.{valueText}
 use Rattle.audit.specs.Check.{usedOf, Judged, sound, unsound}
-use Rattle.texts.specs.Text.{digitsMax}
-use Rattle.texts.proofs.Promises.{escaped-few, decimal-few}
+use Rattle.texts.proofs.Promises.{escaped-few}
 use Rattle.answers.specs.Answers.{fileMax, textMax, fileOk}
 use Rattle.dumping.specs.Dump.{headText}
+use Rattle.dumping.proofs.Counting.{head-few}
 use Rattle.printed.specs.Printed.{ownLine, treeLines, treeDump, roomFor, judgedDump, fileDump}
 use Rattle.printed.proofs.Sizes.{refused-small, file-fits}
 
@@ -58,9 +58,6 @@ text-room area tree is =
       is .front .low,
       is .front .high,
     )
-  where
-    head-few : (count used : ℕ) → length (headText count used) ≤ 64
-    head-few count used = simp length-append (omega (arith, decimal-few digitsMax count, decimal-few digitsMax used))
 
 pub dump-small : (area : List ℕ) (judged : Judged area) → length (fileDump area judged) ≤ textMax
 dump-small area judged = bool-cases (fileOk area) (λ ok. rw ok (by (file-fits area ok) judged)) (λ no. rw no (refused-small _))
