@@ -1,4 +1,6 @@
 // Room for objects: the used mark moves.
+#![tactic(auto)]
+
 ghost use Rattle.std.specs.Prelude.{◌≡◌, ◌+◌, ◌≤◌, length};
 ghost use Rattle.words.specs.Words.{round_up4};
 ghost use Rattle.layout.specs.Layout.{header_size, entry_size};
@@ -9,7 +11,7 @@ ghost use Rattle.allocation.specs.Allocate.{allocate};
 use layout::{Header, Refusal, Verdict};
 
 // Where an object stands: a place given to a new one, or the node that a walk came to.
-#[derive(Drop)]
+#[derive(Clone, Copy)]
 pub enum Placed {
     At(usize),
     Refused(Refusal),

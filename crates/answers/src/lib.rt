@@ -1,4 +1,6 @@
 // What the program lookup prints, as functions on slices: the text of an answer, and of all answers to a piece of input.
+#![tactic(auto)]
+
 ghost use Rattle.std.specs.Prelude.{◌≡◌, ◌++◌};
 ghost use Rattle.layout.specs.Refusals.{number_of};
 ghost use Rattle.property_area.specs.Value.{part_answer};
@@ -59,7 +61,7 @@ pub fn answer(area: &[u8], name: &[u8], out: &mut [u8], at: usize) -> usize
 }
 
 // How a turn left the lookup: bytes that the line has, where the input goes on, and the output's next place.
-#[derive(Drop)]
+#[derive(Clone, Copy)]
 pub struct Progress {
     pub have: usize,
     pub next: usize,

@@ -13,7 +13,7 @@ use layout::{Backup, Header, Node, Refusal, Verdict};
 use trie::header_ok;
 
 // What listing answers: how many entries, or why none.
-#[derive(Drop)]
+#[derive(Clone, Copy)]
 pub enum Listed {
     Entries(usize),
     Refused(Refusal),

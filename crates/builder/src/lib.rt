@@ -1,4 +1,6 @@
 // Building an area: format and add.
+#![tactic(auto)]
+
 mod adding;
 mod fresh;
 

@@ -1,4 +1,6 @@
 // The exported C functions. bindings/c/property_area.h declares them.
+#![tactic(auto)]
+
 ghost use Rattle.std.specs.Prelude.{◌≡◌};
 ghost use Rattle.layout.specs.Refusals.{leaves};
 ghost use Rattle.property_area.specs.Find.{find_steps};
@@ -18,7 +20,7 @@ use property_area::{AreaPart, EntrySerial, Found};
 
 // Refusal 0: found. Where refused the rest is 0.
 #[repr(C)]
-#[derive(Drop)]
+#[derive(Clone, Copy)]
 pub struct PaFound {
     pub refusal: u32,
     pub entry: u32,
@@ -27,7 +29,7 @@ pub struct PaFound {
 
 // Refusal 0: the value, or the name, is area[start .. start + length]. Where refused the rest is 0.
 #[repr(C)]
-#[derive(Drop)]
+#[derive(Clone, Copy)]
 pub struct PaPart {
     pub refusal: u32,
     pub start: u32,
@@ -36,7 +38,7 @@ pub struct PaPart {
 
 // Refusal 0: the serial. Where refused it is 0.
 #[repr(C)]
-#[derive(Drop)]
+#[derive(Clone, Copy)]
 pub struct PaSerial {
     pub refusal: u32,
     pub serial: u32,
@@ -44,7 +46,7 @@ pub struct PaSerial {
 
 // Refusal 0: so many entries, or bytes of text. Where refused the count is 0.
 #[repr(C)]
-#[derive(Drop)]
+#[derive(Clone, Copy)]
 pub struct PaCount {
     pub refusal: u32,
     pub count: u32,

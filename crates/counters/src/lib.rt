@@ -1,4 +1,6 @@
 // How many updates lie between two serials of one entry.
+#![tactic(auto)]
+
 ghost use Rattle.std.specs.Prelude.{◌≡◌};
 ghost use Rattle.counters.specs.Distance.{distance};
 

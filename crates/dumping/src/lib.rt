@@ -1,4 +1,6 @@
 // The dump's text, as functions on slices: for the program dump, and for a room of the caller's.
+#![tactic(auto)]
+
 ghost use Rattle.std.specs.Prelude.{◌≡◌, ◌+◌, ◌≤◌, length};
 ghost use Rattle.layout.specs.Layout.{word_size, used_field};
 ghost use Rattle.audit.specs.Check.{used_of};
@@ -79,7 +81,7 @@ pub fn dump(area: &[u8], scratch: &mut [u8], list: &mut [u32], out: &mut [u8]) -
     }
 }
 
-#[derive(Drop)]
+#[derive(Clone, Copy)]
 pub enum Text {
     // So many bytes, at the start of the room.
     Bytes(usize),

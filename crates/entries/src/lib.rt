@@ -1,4 +1,6 @@
 // Entries: laid down with their value and name, and linked.
+#![tactic(auto)]
+
 ghost use Rattle.std.specs.Prelude.{◌≡◌, ◌+◌, ◌≤◌, ◌<◌, length};
 ghost use Rattle.layout.specs.Layout.{header_size, used_field, entry_size, slot_size, Within, header_word};
 ghost use Rattle.property_info.specs.Written.{short_stores};

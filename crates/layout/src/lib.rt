@@ -18,6 +18,8 @@
 //   which "ab" is found; its children link leads to the tree in which "c" is found; that node's prop leads to the entry.
 //
 // Words are little-endian and stand at multiples of 4; every object takes a multiple of 4 bytes.
+#![tactic(auto)]
+
 mod records;
 mod refusal;
 mod text;

@@ -4,7 +4,7 @@ ghost use Rattle.layout.specs.Layout.{data_size, Within, NodeIn, EntryIn, touch,
 ghost use Rattle.layout.specs.Layout.{namelen_field, prop_field, left_field, right_field, children_field, serial_field, long_offset_field};
 
 // The first bytes of an area.
-#[derive(Drop)]
+#[derive(Clone, Copy)]
 pub struct Header {}
 
 impl Header {
@@ -35,7 +35,7 @@ impl Header {
 }
 
 // The slot in which an update keeps the old value: behind the root node, as large as a value slot.
-#[derive(Drop)]
+#[derive(Clone, Copy)]
 pub struct Backup {}
 
 impl Backup {
@@ -48,7 +48,7 @@ impl Backup {
 }
 
 // A node, by its offset.
-#[derive(Drop)]
+#[derive(Clone, Copy)]
 pub struct Node {
     pub at: usize,
 }
@@ -113,7 +113,7 @@ impl Node {
 }
 
 // An entry, by its offset.
-#[derive(Drop)]
+#[derive(Clone, Copy)]
 pub struct Entry {
     pub at: usize,
 }

@@ -2,7 +2,7 @@
 ghost use Rattle.std.specs.Prelude.{◌≡◌};
 ghost use Rattle.layout.specs.Refusals.{number_of, verdict_number};
 
-#[derive(Drop)]
+#[derive(Clone, Copy)]
 pub enum Refusal {
     // A zero byte in an added name.
     ZeroByte,
@@ -46,7 +46,7 @@ impl Refusal {
 }
 
 // The answer of a call that has no other result.
-#[derive(Drop)]
+#[derive(Clone, Copy)]
 pub enum Verdict {
     Accepted,
     Refused(Refusal),

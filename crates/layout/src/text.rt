@@ -3,7 +3,7 @@ ghost use Rattle.std.specs.Prelude.{◌≡◌};
 ghost use Rattle.layout.specs.Layout.{text_in};
 
 // Where a text stands in the area, without its zero.
-#[derive(Drop)]
+#[derive(Clone, Copy)]
 pub enum Span {
     Bytes { from: usize, to: usize },
     // It runs past the area, or has no zero.

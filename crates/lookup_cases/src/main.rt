@@ -1,5 +1,7 @@
 // The lookup in areas of data/, each with an input, under a line with both names: names of 65,536 and of 65,537 bytes, and one that no line feed ends; no name, the input is empty;
 // a file of more than 65,536 bytes, 8 at each name, and before 6; a file that is not there; a folder, which is opened and cannot be read, as the file and as the input; a damaged area.
+#![tactic(auto)]
+
 use libc::STDOUT_FILENO;
 
 fn print(text: &[u8]) {

@@ -1,15 +1,17 @@
 // Dotted names: a cursor that takes one apart segment by segment, and the order of segments.
+#![tactic(auto)]
+
 ghost use Rattle.std.specs.Prelude.{◌≡◌};
 ghost use Rattle.names.specs.Names.{step_from, segment_order};
 
 // A place in a dotted name: where the next segment begins. Past the name's end there is none.
-#[derive(Drop)]
+#[derive(Clone, Copy)]
 pub struct NameCursor {
     pub at: usize,
 }
 
 // What a step of the cursor hands back.
-#[derive(Drop)]
+#[derive(Clone, Copy)]
 pub enum NameStep {
     // The segment's bounds, and the cursor behind it.
     Segment {
@@ -45,7 +47,7 @@ impl NameCursor {
     }
 }
 
-#[derive(Drop)]
+#[derive(Clone, Copy)]
 pub enum Order {
     Less,
     Equal,

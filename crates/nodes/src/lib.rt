@@ -1,4 +1,6 @@
 // Nodes: laid down, linked, and found or laid down for each segment of a name.
+#![tactic(auto)]
+
 ghost use Rattle.std.specs.Prelude.{◌≡◌, ◌+◌, ◌≤◌, length};
 ghost use Rattle.words.specs.Stores.{run};
 ghost use Rattle.names.specs.Names.{segments};

@@ -1,4 +1,6 @@
 // The programs dump and lookup. They move bytes: a file's and an input's into buffers, the texts of the crates answers and dumping to standard output.
+#![tactic(auto)]
+
 ghost use Rattle.std.specs.Prelude.{◌≡◌, List, [], ℕ, ◌≤◌, ◌<◌, length, take};
 ghost use Rattle.io.specs.Counts.{IsPrefixLen};
 ghost use Rattle.sound.specs.Sound.{Without};

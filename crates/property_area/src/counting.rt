@@ -5,7 +5,7 @@ ghost use Rattle.property_area.specs.Value.{serial_answer, serial_steps};
 use layout::{Entry, Refusal};
 use trie::header_ok;
 
-#[derive(Drop)]
+#[derive(Clone, Copy)]
 pub enum EntrySerial {
     Word(u32),
     Refused(Refusal),

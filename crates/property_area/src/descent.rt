@@ -6,7 +6,7 @@ use layout::{Entry, Node, Refusal};
 use names::{NameCursor, NameStep};
 use trie::{Searched, find_segment, header_ok};
 
-#[derive(Drop)]
+#[derive(Clone, Copy)]
 pub enum Found {
     // The entry's offset, and how many nodes were compared over all segments, modulo 2^64.
     Entry { offset: u32, compared: usize },

@@ -1,5 +1,7 @@
 // The property area, read: find; value, name and serial of an entry; the backup slot.
 // Every call tests the header first; the search among nodes stands in the crate trie.
+#![tactic(auto)]
+
 mod backup;
 mod counting;
 mod descent;

@@ -5,7 +5,7 @@ ghost use Rattle.property_area.specs.Value.{part_answer, value_steps, part_or_no
 use layout::{Entry, Refusal, Span};
 use trie::header_ok;
 
-#[derive(Drop)]
+#[derive(Clone, Copy)]
 pub enum AreaPart {
     // The value is area[from..to].
     Bytes { from: usize, to: usize },

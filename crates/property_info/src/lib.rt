@@ -1,4 +1,6 @@
 // The entry: long or short, its name, where its value stands, and the writing of it. Every function takes an entry that lies in the area.
+#![tactic(auto)]
+
 ghost use Rattle.std.specs.Prelude.{◌≡◌, true, ◌<◌, length};
 ghost use Rattle.words.specs.Stores.{run};
 ghost use Rattle.layout.specs.Layout.{EntryIn, slot_size};

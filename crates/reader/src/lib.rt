@@ -1,4 +1,6 @@
 // A reader that carries the area and the place of an entry in it: thin calls over find and value.
+#![tactic(auto)]
+
 ghost use Rattle.std.specs.Prelude.{◌≡◌};
 ghost use Rattle.property_area.specs.Find.{found_answer, find_steps};
 ghost use Rattle.property_area.specs.Lookup.{lookup_steps};
@@ -7,7 +9,7 @@ ghost use Rattle.property_area.specs.Value.{part_answer, value_steps};
 use property_area::{AreaPart, Found};
 
 // The place is an entry's offset, as find gives it.
-#[derive(Drop)]
+#[derive(Clone, Copy)]
 pub struct AreaReader<'a> {
     pub area: &'a [u8],
     pub at: u32,

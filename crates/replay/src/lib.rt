@@ -1,4 +1,6 @@
 // Replays fixed vectors.
+#![tactic(auto)]
+
 mod checksum;
 mod records;
 mod replaying;

@@ -3,7 +3,7 @@ ghost use Rattle.std.specs.Prelude.{◌≡◌, ◌+◌, ◌*◌, ◌≤◌, leng
 ghost use Rattle.replay.specs.Records.{step_of, arguments_of, strings_of, answers_of, is_call, area_size, wanted_of, word_of, parts_at, read_parts, read_record};
 
 // The steps, in the order of their opcodes.
-#[derive(Drop)]
+#[derive(Clone, Copy)]
 pub enum Step {
     Format,
     Add,
@@ -17,7 +17,7 @@ pub enum Step {
 }
 
 // What an opcode stands for.
-#[derive(Drop)]
+#[derive(Clone, Copy)]
 pub enum Opcode {
     Of(Step),
     Unknown,
@@ -145,7 +145,7 @@ impl Step {
 }
 
 // Where the parts of a record stand. Its byte strings are vectors[strings..middle] and vectors[middle..answers].
-#[derive(Drop)]
+#[derive(Clone, Copy)]
 pub struct Parts {
     pub step: Step,
     // The first two arguments, 0 where there are fewer.
@@ -158,7 +158,7 @@ pub struct Parts {
 }
 
 // What stands at a place of the vectors.
-#[derive(Drop)]
+#[derive(Clone, Copy)]
 pub enum Reading {
     Record(Parts),
     // The vectors end within the record.

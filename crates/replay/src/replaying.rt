@@ -5,14 +5,14 @@ ghost use Rattle.replay.specs.Replay.{one_if, nothing, count_record, Fair, end_a
 use crate::turns::{End, Turn, play_at};
 
 // How many records were replayed, how many of their steps are calls, and how many records differ in an answer or in the area's bytes.
-#[derive(Drop)]
+#[derive(Clone, Copy)]
 pub struct Tally {
     pub records: u32,
     pub calls: u32,
     pub differences: u32,
 }
 
-#[derive(Drop)]
+#[derive(Clone, Copy)]
 pub struct Report {
     pub tally: Tally,
     pub end: End,

@@ -12,7 +12,7 @@ use layout::Verdict;
 use property_area::{AreaPart, Found};
 
 // What a step answers, in the order in which a record has it; 0 where there are fewer than three.
-#[derive(Drop)]
+#[derive(Clone, Copy)]
 pub struct Answers {
     pub first: u32,
     pub second: u32,

@@ -8,7 +8,7 @@ use crate::records::{Parts, Reading, read_record, word_of};
 use crate::steps::{Answers, perform};
 
 // How the vectors end.
-#[derive(Drop)]
+#[derive(Clone, Copy)]
 pub enum End {
     // With the last of their records.
     Whole,
@@ -23,7 +23,7 @@ pub enum End {
 }
 
 // What became of a record.
-#[derive(Drop)]
+#[derive(Clone, Copy)]
 pub enum Turn {
     // Where the next begins, how many bytes of the space are the area, whether its step is a call, and whether all that is compared agrees.
     Done {

@@ -1,4 +1,6 @@
 // The serial of an entry: what its bits say, and the serials that are stored.
+#![tactic(auto)]
+
 ghost use Rattle.std.specs.Prelude.{◌≡◌, ◌<◌, ◌==◌};
 ghost use Rattle.layout.specs.Layout.{slot_size};
 ghost use Rattle.serials.specs.Serial.{long_in, short_serial, long_serial, dirty, updated_serial, position};

@@ -1,4 +1,6 @@
 // Runs the settled examples: answers, and the words of the area that they speak of.
+#![tactic(auto)]
+
 use layout::{Entry, Header, Verdict};
 use libc::STDOUT_FILENO;
 use property_area::Found;

@@ -1,4 +1,6 @@
 // The text of the programs, as functions on slices: escaped bytes, numbers, and a line put together from pieces.
+#![tactic(auto)]
+
 ghost use Rattle.std.specs.Prelude.{◌≡◌, ◌+◌, ◌%◌, ◌≤◌, ◌<◌, min, length};
 ghost use Rattle.words.specs.Words.{put};
 ghost use Rattle.texts.specs.Text.{prints_as_is, digit, hex_digit, escaped_byte, escaped, decimal, saying, said, fed, feed};
@@ -101,7 +103,7 @@ pub fn say_number(out: &mut [u8], at: usize, n: usize) -> usize
 }
 
 // What became of a piece of input: bytes that the line has, where the input goes on, whether the line has ended.
-#[derive(Drop)]
+#[derive(Clone, Copy)]
 pub struct Piece {
     pub have: usize,
     pub next: usize,

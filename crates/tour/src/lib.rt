@@ -11,6 +11,8 @@
 // needs the node before alone: it is handed down a left side, to the right from the node itself, and to children not at all.
 //
 // It is a step of check and listing (crate audit), and no call of the library: they keep what it asks.
+#![tactic(auto)]
+
 mod touring;
 
 pub use touring::{Toured, tour};

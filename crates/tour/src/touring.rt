@@ -14,7 +14,7 @@ use works::{Own, own_work};
 const STEP: usize = 6;
 
 // Where the walk is: at node cur, about to go left (phase 0), to do the node's own work and go below (1), right (2) or up (3).
-#[derive(Drop)]
+#[derive(Clone, Copy)]
 pub struct Walk {
     pub ok: bool,
     pub cur: usize,
@@ -143,7 +143,7 @@ fn note(list: &mut [u32], i: usize, at: usize) -> usize
 }
 
 // How a walk over the whole tree ended, and how many entries it saw.
-#[derive(Drop)]
+#[derive(Clone, Copy)]
 pub struct Toured {
     pub ended: bool,
     pub entries: usize,

@@ -1,4 +1,6 @@
 // The header test, and the trie: its nodes' names, and the search for a segment among them. The search tests no header.
+#![tactic(auto)]
+
 mod header;
 mod trie;
 

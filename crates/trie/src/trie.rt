@@ -17,7 +17,7 @@ pub fn trie_node_name(area: &[u8], node: Node) -> Span
 }
 
 // What the comparison of a segment with a node finds.
-#[derive(Drop)]
+#[derive(Clone, Copy)]
 pub enum Visited {
     // The segment is the node's.
     Same,
@@ -57,7 +57,7 @@ fn follow_link(link: u32, at: usize) -> Visited
 }
 
 // What the search for a segment finds.
-#[derive(Drop)]
+#[derive(Clone, Copy)]
 pub enum Searched {
     // The node of that name, and how many nodes were compared.
     Named { node: usize, compared: usize },

@@ -31,7 +31,7 @@ pub fn build(area: &mut [u8]) {
 }
 
 // A number of a line, and the place behind the space that ends it.
-#[derive(Drop)]
+#[derive(Clone, Copy)]
 struct Number {
     value: usize,
     next: usize,

@@ -5,6 +5,8 @@
 //   708 node "d", right of "c", entry 732      used 836
 //
 // The input has the ways, one to a line: what is changed, an offset, what is put there, and the way's name (breaking.rt).
+#![tactic(auto)]
+
 mod breaking;
 mod listing;
 mod saying;

@@ -1,4 +1,6 @@
 // Updating entries in place: by name, and raw at an offset.
+#![tactic(auto)]
+
 ghost use Rattle.std.specs.Prelude.{◌≡◌, ◌+◌, ◌≤◌, length};
 ghost use Rattle.words.specs.Stores.{run};
 ghost use Rattle.layout.specs.Layout.{slot_size, backup_at, Within, EntryIn};

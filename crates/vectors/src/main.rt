@@ -6,6 +6,8 @@
 // sample does not tell from the Rust, the smallest case that does.
 // The crate replay reads the format. Its contract says that the counts are those of the definitions: no difference here means that the definitions
 // of the calls, and not only this code, give the Rust's answers at every step, and bytes with the checksum of the Rust's.
+#![tactic(auto)]
+
 ghost use Rattle.io.specs.Counts.{IsPrefixLen};
 
 mod counting;

@@ -1,4 +1,6 @@
 // Bytes in a lent slice: little-endian words, alignment, the scan for a byte, copies and fills, a comparison.
+#![tactic(auto)]
+
 ghost use Rattle.std.specs.Prelude.{◌≡◌, ◌+◌, ◌-◌, ◌≤◌, ◌<◌, length, get_or, replicate};
 ghost use Rattle.words.specs.Words.{little_at, little_bytes, round_up4, first_in, same_bytes, put};
 ghost use Rattle.words.specs.Stores.{run, text_stores};

@@ -13,7 +13,7 @@ use layout::{Entry, Header, Node};
 use probes::{field, take, text_end};
 
 // What a node's own work finds.
-#[derive(Drop)]
+#[derive(Clone, Copy)]
 pub enum Own {
     Bare,
     // The entry's offset.
