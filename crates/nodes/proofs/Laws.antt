@@ -73,10 +73,11 @@ unfolding hang_node
 hang-stop area link name r after e why f = placed-stop (new_node area name) r after e (λ at laid. link_to laid link at) why f
 
 -- ---- the search that lays down: s is what it found
--- a search that neither names a node nor finds it missing: its tag is neither the first nor the second
-stopped : (area segment : List ℕ) (s : Searched) → OneOf (1 ∷ 2 ∷ []) (tag_of the_type s) → OneOf (0 ∷ 2 ∷ []) (tag_of the_type s) → or_hang area segment s ≡ stop_by area (refusal_of s)
-stopped area segment (Searched.Named node n) o k = absurd (⊎_elim (λ e. omega arith) (λ e. omega arith) o)
-stopped area segment (Searched.Absent link n) o k = absurd (⊎_elim (λ e. omega arith) (λ e. omega arith) k)
+-- a search that neither names a node nor finds it missing
+stopped : (area segment : List ℕ) (s : Searched) → ((node n : ℕ) → s ≡ Searched.Named node n → ⊥) → ((link n : ℕ) → s ≡ Searched.Absent link n → ⊥)
+    → or_hang area segment s ≡ stop_by area (refusal_of s)
+stopped area segment (Searched.Named node n) o k = absurd (o node n refl)
+stopped area segment (Searched.Absent link n) o k = absurd (k link n refl)
 stopped area segment (Searched.Refused why) o k = refl
 
 module _ (area segment : List ℕ) (first : ℕ) (s : Searched) (e : s ≡ search_from area segment (nodes_max area) first 0) where
@@ -88,7 +89,7 @@ module _ (area segment : List ℕ) (first : ℕ) (s : Searched) (e : s ≡ searc
   unfolding add_node
   add-absent link n f t g = rw (← e, f) g
 
-  pub add-stop : OneOf (1 ∷ 2 ∷ []) (tag_of the_type s) → OneOf (0 ∷ 2 ∷ []) (tag_of the_type s)
+  pub add-stop : ((node n : ℕ) → s ≡ Searched.Named node n → ⊥) → ((link n : ℕ) → s ≡ Searched.Absent link n → ⊥)
       → (why : Refusal) → why ≡ refusal_of s → placed_step (Placed.Refused why) area ≡ seen (add_node area segment first)
   unfolding add_node seen
   add-stop o k why f = rw (f, ← e, stopped area segment s o k)
