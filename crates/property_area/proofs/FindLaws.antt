@@ -46,9 +46,9 @@ unfolding find_from
 find-end area segs node n h = rw h
 
 -- ---- a turn of find: s is what the search for the next segment found
--- a search that names no node: its tag is not the first
-stopped : (s : Searched) → OneOf (1 ∷ 2 ∷ []) (tag_of the_type s) → (on : ℕ → ℕ → Answer Hit) → refuse (refusal_of s) ≡ by_search s on
-stopped (Searched.Named m k) o on = absurd (⊎_elim (λ e. omega arith) (λ e. omega arith) o)
+-- a search that names no node
+stopped : (s : Searched) → ((m k : ℕ) → s ≡ Searched.Named m k → ⊥) → (on : ℕ → ℕ → Answer Hit) → refuse (refusal_of s) ≡ by_search s on
+stopped (Searched.Named m k) o on = absurd (o m k refl)
 stopped (Searched.Absent l k) o on = refl
 stopped (Searched.Refused why) o on = refl
 
@@ -60,5 +60,5 @@ module _ (area : List ℕ) (segs : List (List ℕ)) (node n : ℕ) (seg : List �
   pub find-on : (m k : ℕ) → s ≡ Searched.Named m k → find_from area segs node n ≡ find_from area rest m ((n + k) % count_limit)
   find-on m k g = turn ∙ rw g
 
-  pub find-stop : OneOf (1 ∷ 2 ∷ []) (tag_of the_type s) → refuse (refusal_of s) ≡ find_from area segs node n
+  pub find-stop : ((m k : ℕ) → s ≡ Searched.Named m k → ⊥) → refuse (refusal_of s) ≡ find_from area segs node n
   find-stop o = stopped s o (λ m k. find_from area rest m ((n + k) % count_limit)) ∙ sym turn

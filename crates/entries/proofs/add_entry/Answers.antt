@@ -1,6 +1,7 @@
 -- `add_entry` comes to what `add_entry` says: a law for each way out, of what is known at the places on the way. Assumes nothing.
 use mathlib.Core.Path.{◌≡◌, sym, ◌∙◌}
 use mathlib.Core.Bool.{true}
+use mathlib.Core.List.{[]}
 use native.Mathlib.Omega.{arith}
 use Rattle.layout.specs.Layout.{node_size, node_ok, NodeIn}
 use Rattle.layout.proofs.Laws.{touch-in}
@@ -20,10 +21,10 @@ node_in : (c : Else-not-touched) → NodeIn c.args.area.now c.args.node
 node_in c = touch-in _ node_size _ (node-fine c)
 
 bare : (c : Else-prop-ne0) → Bare c.args.area.now c.args.node
-bare c = record { there = node-fine (?up-Else-not-touched c); propless = sym c.prop-prop.ensures ∙ c.if-prop-ne0.false }
+bare c = record { there = (sym c.touched.ensures ∙ c.if-not-touched.false); propless = sym c.prop-prop.ensures ∙ c.if-prop-ne0.false }
 
 entry-laid : (c : In-At)
-    → goes c.in-At.at c.new_prop_info-laid.new.0 []
+    → goes c.in-At.at c.new_prop_info-laid.new.area []
     ≡ seen (new_entry c.args.area.now c.args.name.now c.args.value.now)
 entry-laid c = placed_at _ _ _ c.new_prop_info-laid.ensures _ c.in-At.is
 
@@ -31,7 +32,7 @@ pub returns-then-not-touched : goal.returns-then-not-touched
 returns-then-not-touched c = prop-out _ _ _ _ (sym c.touched.ensures ∙ c.if-not-touched.true)
 
 pub prop-prop-requires : goal.prop-prop-requires
-prop-prop-requires c = node_in (goal.at.prop-prop-requires c).After-touched
+prop-prop-requires c = node_in (goal.at.prop-prop-requires c).Else-not-touched
 
 pub returns-then-prop-ne0 : goal.returns-then-prop-ne0
 returns-then-prop-ne0 c = prop-there _ _ _ _ (node-fine (goal.at.returns-then-prop-ne0 c).Else-not-touched) _ c.prop-prop.ensures c.if-prop-ne0.true

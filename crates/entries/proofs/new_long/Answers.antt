@@ -24,7 +24,7 @@ put_text-requires c =
 pub returns-then-not-touched : goal.returns-then-not-touched
 returns-then-not-touched c =
     long-goes _ _ _ _ _ _ (placed_at _ _ _ (rw zero-add at c.allocate_obj-room.ensures) _ c.in-At.is) _ c.put_text.ensures _
-    (lay-out _ _ _ _ (sym c.touched.ensures ∙ c.if-not-touched.taken))
+    (lay-out _ _ _ _ (sym c.touched.ensures ∙ c.if-not-touched.true))
 
 pub overflow_sub-far : goal.overflow_sub-far
 overflow_sub-far c =
@@ -39,4 +39,4 @@ overflow_cast-far c =
 pub returns : goal.returns
 returns c =
     long-goes _ _ _ _ _ _ (placed_at _ _ _ (rw zero-add at c.allocate_obj-room.ensures) _ c.in-At.is) _ c.put_text.ensures _
-    (lay-goes _ _ _ _ (sym c.touched.ensures ∙ c.if-not-touched.left) _ _ c.init_with_long_offset.ensures c.put_text-2.ensures)
+    (lay-goes _ _ _ _ (sym c.touched.ensures ∙ c.if-not-touched.false) _ _ c.init_with_long_offset.ensures c.put_text-2.ensures)

@@ -34,7 +34,7 @@ slice_bounds-find_segment-end c = (stepped (goal.at.slice_bounds-find_segment-en
 pub returns-in_default-searched : goal.returns-in_default-searched
 returns-in_default-searched c =
     ap refuse c.refusal.ensures
-    ∙ find-stop _ _ _ _ _ _ (stepped (goal.at.returns-in_default-searched c).In-Segment).parts _ c.find_segment-searched.ensures c.in_default-searched.keys2
+    ∙ find-stop _ _ _ _ _ _ (stepped (goal.at.returns-in_default-searched c).In-Segment).parts _ c.find_segment-searched.ensures c.in_default-searched.not-Named
     ∙ sym c.loop-from.invariant
 
 pub loop-from-smaller : goal.loop-from-smaller
@@ -44,6 +44,6 @@ loop-from-smaller c =
 
 pub loop-from-preserved : goal.loop-from-preserved
 loop-from-preserved c =
-    rw c.wrapping_add_usize-compared.ensures
+    rw c.wrapping_add_usize-compared.ensures.value
     (c.loop-from.invariant
     ∙ find-on _ _ _ _ _ _ (stepped (goal.at.loop-from-preserved c).In-Segment).parts _ c.find_segment-searched.ensures _ _ c.in-Named.is)
