@@ -5,11 +5,11 @@ use Rattle.walk.specs.Marks.{fill}
 use Rattle.probes.proofs.marks.take.Goals as goal
 
 pub returns-then-marks-n : goal.returns-then-marks-n
-returns-then-marks-n c = (take_past _ _ _ c.if-marks-n.true, refl)
+returns-then-marks-n c = record { says = take_past _ _ _ c.if-marks-n.true; leaves = refl }
 
 pub returns-then-not-free : goal.returns-then-not-free
-returns-then-not-free c = (take-free _ _ _ c.if-marks-n.false _ (sym (c.if-not-free.true) ∙ c.free.ensures), refl)
+returns-then-not-free c = record { says = take-free _ _ _ c.if-marks-n.false _ (sym (c.if-not-free.true) ∙ c.free.ensures); leaves = refl }
 
 pub returns : goal.returns
 unfolding fill
-returns c = (take-free _ _ _ c.if-marks-n.false _ (sym (c.if-not-free.false) ∙ c.free.ensures), c.fill.ensures)
+returns c = record { says = take-free _ _ _ c.if-marks-n.false _ (sym (c.if-not-free.false) ∙ c.free.ensures); leaves = c.fill.ensures }
