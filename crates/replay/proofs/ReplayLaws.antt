@@ -45,7 +45,7 @@ module _
         → (counted : Tally) → counted ≡ count_record tally call same
         → replay_from vectors room more at size space tally ≡ replay_from vectors room left next n after counted
     unfolding replay_from
-    replay-on next n call same f counted g = rw (s, ← q, ← e, f, g)
+    replay-on next n call same f counted g = rw (s, ← q, ← e, f, g, q)
 
 pub replay-ends : (vectors : List ℕ) (room left at size : ℕ) (space : List ℕ) (tally : Tally) → left ≡ 0 → (end : End) → end ≡ end_at vectors at
     → report tally end ≡ replay_from vectors room left at size space tally
