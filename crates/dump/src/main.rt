@@ -1,6 +1,6 @@
 // Prints the names and values of area.bin. Here: the second settled example.
 #![tactic(auto)]
 
-fn main() {
-    programs::dump();
+fn main(rt: HostRuntime) {
+    programs::dump(&rt);
 }

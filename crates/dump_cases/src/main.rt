@@ -3,27 +3,19 @@
 // long value, an empty one, and bytes that are escaped.
 #![tactic(auto)]
 
-use libc::STDOUT_FILENO;
-
-fn print(text: &[u8]) {
-    io::write_all(STDOUT_FILENO, text);
+fn show(rt: &HostRuntime, file: &str) {
+    let _ = println!(rt; "-- {file}");
+    programs::dump_file(rt, file);
 }
 
-fn show(file: &[u8]) {
-    print(b"-- ");
-    print(file);
-    print(b"\n");
-    programs::dump_file(file);
-}
-
-fn main() {
-    show(b"empty.area");
-    show(b"short.area");
-    show(b"large.area");
-    show(b"largest.area");
-    show(b"most.area");
-    show(b"damaged.area");
-    show(b"missing.area");
-    show(b".");
-    show(b"values.area");
+fn main(rt: HostRuntime) {
+    show(&rt, "empty.area");
+    show(&rt, "short.area");
+    show(&rt, "large.area");
+    show(&rt, "largest.area");
+    show(&rt, "most.area");
+    show(&rt, "damaged.area");
+    show(&rt, "missing.area");
+    show(&rt, ".");
+    show(&rt, "values.area");
 }

@@ -6,7 +6,7 @@ use mathlib.Core.Path.{◌≡◌, refl, ap, ◌∙◌}
 use mathlib.Core.Bool.{true, cond}
 use mathlib.Core.List.{List, [], ◌∷◌, ◌++◌}
 use lib.Dec.{eqb}
-use lib.ListN.{length, length-append}
+use lib.ListN.{length}
 use borrow.Author.Tests.{eq-eqb, ne_eqb, eqb-true, eqb-false}
 use Rattle.words.proofs.Laws.{bool_cases}
 use Rattle.names.specs.Names.{dot, segments, segment_order}
@@ -19,7 +19,7 @@ use Rattle.trie.proofs.TrieLaws.{segment-empty}
 use Rattle.property_area.specs.Walked.{by_named, walked_from, walked}
 use Rattle.sound.specs.Tree.{Entry, bare, Tree, leaf, node, link}
 use Rattle.sound.specs.Sound.{Sound}
-use Rattle.sound.specs.Ways.{to_left, to_below, to_right, toward, reached, nodes}
+use Rattle.sound.specs.Ways.{to_below, toward, reached, nodes}
 use Rattle.finding.specs.Look.{turn, spot, compares, by_node, summed}
 use Rattle.finding.proofs.Measures.{passes, whole, summed-append, passes-few}
 use Rattle.finding.proofs.NodeReads.{Standing, stands-left, stands-right, node-lies, visit-node}

@@ -7,13 +7,13 @@ use lib.ListN.{length}
 use Rattle.names.specs.Names.{segments}
 use Rattle.layout.specs.Layout.{namelen_field, first_free, byte_of, word_at, node_takes}
 use Rattle.property_area.specs.Walked.{walked}
-use Rattle.sound.specs.Tree.{Entry, Tree, leaf, node, inside, cover}
+use Rattle.sound.specs.Tree.{Tree, leaf, node, inside, cover}
 use Rattle.sound.specs.Sound.{TreeAt, Sound}
 use Rattle.sound.proofs.Inside.{inside-part}
 use Rattle.sound.proofs.Counting.{taken, taken-few, nodes-few}
 use Rattle.finding.specs.Look.{node_bytes, node_cover, summed}
 use Rattle.finding.proofs.Measures.{whole, length-summed, nodes-whole}
-use Rattle.finding.proofs.Passing.{passed, walked-passed, passed-few}
+use Rattle.finding.proofs.Passing.{walked-passed, passed-few}
 
 module _ (area : List ℕ) where
   -- they are bytes of the node as it is padded

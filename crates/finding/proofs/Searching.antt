@@ -16,7 +16,7 @@ use Rattle.trie.specs.declared.trie.Visited.{Visited}
 use Rattle.trie.specs.declared.trie.Searched.{Searched}
 use Rattle.trie.specs.Trie.{follow, nodes_max, by_visit, search_from, child_steps, segment_steps}
 use Rattle.sound.specs.Tree.{Tree, leaf, node, link}
-use Rattle.sound.specs.Ways.{Dir, to_left, to_below, to_right, toward, reached, nodes}
+use Rattle.sound.specs.Ways.{Dir, to_left, to_right, toward, reached, nodes}
 use Rattle.sound.specs.Links.{link_field}
 use Rattle.finding.specs.Look.{turn, spot, compares}
 use Rattle.finding.proofs.NodeReads.{Standing, stands-left, stands-right, node-lies, visit-node}

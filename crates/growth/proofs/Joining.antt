@@ -1,6 +1,5 @@
 -- A way behind another, and the same way in the tree with another put where it leads: for adding node below node.
 use Prim.Native.Nat.{ℕ}
-use native.Mathlib.Omega.{arith}
 use mathlib.Core.Path.{◌≡◌, refl, ap, ◌∙◌}
 use mathlib.Core.List.{List, [], ◌∷◌, ◌++◌}
 use Rattle.words.proofs.Laws.{clash}

@@ -1,7 +1,7 @@
 -- What an accepted update by name leaves in the backup slot of a sound area: the value that was shown before.
 use Prim.Native.Nat.{ℕ, ◌+◌, ◌≤◌}
 use native.Mathlib.Omega.{arith}
-use mathlib.Core.Path.{◌≡◌, refl}
+use mathlib.Core.Path.{◌≡◌}
 use mathlib.Core.List.{List, [], ◌∷◌, ◌++◌}
 use lib.ListN.{length, get_or}
 use Rattle.words.proofs.Laws.{clash}

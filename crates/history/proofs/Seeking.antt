@@ -1,8 +1,6 @@
 -- The entry that a path of segments leads to, and how find answers by it: 3 where there is none, else its offset and the nodes compared.
 use Prim.Native.Nat.{ℕ, ◌+◌}
-use native.Mathlib.Nat.{add-zero, add_assoc}
-use native.Mathlib.Omega.{arith}
-use mathlib.Core.Path.{◌≡◌, refl, ap, ◌∙◌}
+use mathlib.Core.Path.{◌≡◌, refl}
 use mathlib.Core.Bool.{true, false}
 use mathlib.Core.List.{List, [], ◌∷◌}
 use lib.Dec.{eqb}

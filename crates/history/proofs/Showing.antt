@@ -1,6 +1,5 @@
 -- What a lookup shows over the bytes of a sound area, told by its tree: the value of the name's entry; where there is none, a refusal.
 use Prim.Native.Nat.{ℕ}
-use native.Mathlib.Omega.{arith}
 use mathlib.Core.Path.{◌≡◌, refl, sym, ap, ◌∙◌}
 use mathlib.Core.Logic.{◌⊎◌, inl, inr}
 use mathlib.Core.List.{List}

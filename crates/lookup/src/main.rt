@@ -1,6 +1,6 @@
 // Prints the value of each name that standard input holds, one to a line. Here: names with and without an entry, malformed ones, an empty line.
 #![tactic(auto)]
 
-fn main() {
-    programs::lookup();
+fn main(rt: HostRuntime) {
+    programs::lookup(&rt);
 }

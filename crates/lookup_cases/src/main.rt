@@ -2,33 +2,24 @@
 // a file of more than 65,536 bytes, 8 at each name, and before 6; a file that is not there; a folder, which is opened and cannot be read, as the file and as the input; a damaged area.
 #![tactic(auto)]
 
-use libc::STDOUT_FILENO;
+use std::fs;
 
-fn print(text: &[u8]) {
-    io::write_all(STDOUT_FILENO, text);
-}
-
-fn show(file: &[u8], names: &[u8]) {
-    print(b"-- ");
-    print(file);
-    print(b" ");
-    print(names);
-    print(b"\n");
-    let input = os::open_read(names);
-    if input < 0 {
-        print(b"no input\n");
-        return;
+fn show(rt: &HostRuntime, file: &str, names: &str) {
+    let _ = println!(rt; "-- {file} {names}");
+    match fs::open(rt, names) {
+        Ok(mut input) => programs::lookup_file(rt, file, &mut input),
+        Err(_) => {
+            let _ = println!(rt; "no input");
+        }
     }
-    programs::lookup_file(file, input);
-    libc::close(input);
 }
 
-fn main() {
-    show(b"settled.area", b"long.names");
-    show(b"settled.area", b"none.names");
-    show(b"large.area", b"large.names");
-    show(b"missing.area", b"missing.names");
-    show(b".", b"missing.names");
-    show(b"settled.area", b".");
-    show(b"damaged.area", b"damaged.names");
+fn main(rt: HostRuntime) {
+    show(&rt, "settled.area", "long.names");
+    show(&rt, "settled.area", "none.names");
+    show(&rt, "large.area", "large.names");
+    show(&rt, "missing.area", "missing.names");
+    show(&rt, ".", "missing.names");
+    show(&rt, "settled.area", ".");
+    show(&rt, "damaged.area", "damaged.names");
 }

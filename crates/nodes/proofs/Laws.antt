@@ -2,12 +2,9 @@
 use mathlib.Core.Path.{◌≡◌, refl, sym, ◌∙◌}
 use mathlib.Core.Bool.{true, false}
 use mathlib.Core.List.{List, [], ◌∷◌}
-use mathlib.Core.Logic.{⊎_elim}
 use Prim.Native.Nat.{ℕ, ◌+◌, ◌≤◌}
 use native.Mathlib.Omega.{arith}
 use borrow.Author.Tests.{eq-eqb, ne_eqb}
-use types.Run.{OneOf}
-use denote.Enum.Declared.{tag_of}
 use lib.ListN.{length}
 use Rattle.words.specs.Words.{little_bytes, put}
 use Rattle.words.specs.Stores.{run}
@@ -16,7 +13,6 @@ use Rattle.names.specs.Names.{segments}
 use Rattle.names.proofs.Laws.{segments_from, segments-whole}
 use Rattle.layout.specs.declared.refusal.Refusal.{Refusal}
 use Rattle.layout.specs.Layout.{word_max, byte_of, node_takes, children_field, node_ok, word_at}
-use Rattle.trie.specs.contracts.trie.Searched.{the_type}
 use Rattle.trie.specs.declared.trie.Searched.{Searched}
 use Rattle.trie.specs.Trie.{nodes_max, search_from}
 use Rattle.allocation.specs.declared.Placed.{Placed}

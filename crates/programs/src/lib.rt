@@ -14,10 +14,13 @@ ghost use Rattle.programs.specs.Reading.{readable_size};
 
 use answers::{FILE_MAX, NAME_MAX, Progress};
 use layout::{Backup, Entry, Header, Node};
-use libc::{STDIN_FILENO, STDOUT_FILENO};
+use std::fs;
+use std::fs::File;
+use std::io::Read;
+use streams::{print, read_full};
 
 // The programs' file, in the current folder.
-const AREA: [u8; 8] = *b"area.bin";
+const AREA: &str = "area.bin";
 
 // Space for a file, and for a line of the input: one byte more than may be, so that more is seen.
 const FILE_SPACE: usize = FILE_MAX + 1;
@@ -26,6 +29,9 @@ const LINE_SPACE: usize = NAME_MAX + 1;
 
 // No answer and no dump is longer.
 const TEXT_MAX: usize = 4 * FILE_MAX + 64;
+
+// The input is read in pieces of so many bytes.
+const PIECE_SPACE: usize = 65536;
 
 // The lookup gathers answers, and prints them when the next may have no room.
 const ANSWERS_SPACE: usize = 2 * TEXT_MAX;
@@ -37,10 +43,6 @@ const SCRATCH_SPACE: usize = FILE_MAX / 4;
 const ENTRIES_MAX: usize = (FILE_MAX - Header::SIZE - Backup::END)
     / (Node::SIZE + 4 + Entry::SIZE + 4);
 
-fn print(text: &[u8]) {
-    io::write_all(STDOUT_FILENO, text);
-}
-
 // How many bytes of a file count, of which so many were read and a further read answered so.
 fn readable_size(size: usize, behind: isize) -> usize
     ensures { result ≡ readable_size size behind }
@@ -48,30 +50,35 @@ fn readable_size(size: usize, behind: isize) -> usize
     if behind == 0 { size } else { 0 }
 }
 
+// What a read of one byte more answers: how many bytes, or -1 where it fails.
+fn read_behind(file: &mut File) -> isize {
+    let mut byte = [0u8; 1];
+    match file.read(&mut byte) {
+        Ok(n) => n as isize,
+        Err(_) => -1,
+    }
+}
+
 // Reads an open file into the start of a buffer, and answers how many bytes. Where they do not fill the buffer, a further read has to find the file's end.
-fn read_whole(fd: i32, buf: &mut [u8]) -> usize
+fn read_whole(file: &mut File, buf: &mut [u8]) -> usize
     ensures { IsPrefixLen result buf.new }
 {
-    let size = io::read_full(fd, buf);
+    let size = read_full(file, buf);
     if size == buf.len() {
         return size;
     }
-    let mut byte = [0u8; 1];
-    let behind = libc::read(fd, &mut byte);
+    let behind = read_behind(file);
     readable_size(size, behind)
 }
 
 // Reads a file into the start of a buffer, and answers how many bytes. A file that cannot be read to its end counts as empty; of a longer one there are as many bytes as the buffer has.
-fn load(file: &[u8], buf: &mut [u8]) -> usize
+fn load(rt: &HostRuntime, file: &str, buf: &mut [u8]) -> usize
     ensures { IsPrefixLen result buf.new }
 {
-    let fd = os::open_read(file);
-    if fd < 0 {
-        return 0;
+    match fs::open(rt, file) {
+        Ok(mut opened) => read_whole(&mut opened, buf),
+        Err(_) => 0,
     }
-    let size = read_whole(fd, buf);
-    libc::close(fd);
-    size
 }
 
 // ---- dump
@@ -87,22 +94,22 @@ fn dump_text(area: &[u8], out: &mut [u8]) -> usize
     dumping::dump(area, &mut scratch, &mut list, out)
 }
 
-fn print_dump(area: &[u8]) {
+fn print_dump(rt: &HostRuntime, area: &[u8]) {
     let mut out = [0u8; TEXT_MAX];
     let told = dump_text(area, &mut out);
-    print(&out[..told]);
+    print(rt, &out[..told]);
 }
 
 // Prints the dump of a file.
-pub fn dump_file(file: &[u8]) {
+pub fn dump_file(rt: &HostRuntime, file: &str) {
     let mut space = [0u8; FILE_SPACE];
-    let size = load(file, &mut space);
-    print_dump(&space[..size]);
+    let size = load(rt, file, &mut space);
+    print_dump(rt, &space[..size]);
 }
 
 // The program dump: area.bin, of the current folder.
-pub fn dump() {
-    dump_file(&AREA);
+pub fn dump(rt: &HostRuntime) {
+    dump_file(rt, AREA);
 }
 
 // ---- lookup
@@ -142,7 +149,14 @@ fn answer_some(
 
 // Answers all names of a piece of input, and prints the answers. A name that has not ended stays in the line: the result says how many bytes.
 // What was owed at the call is a text, and then what is owed for those bytes and for all that comes later.
-fn serve(area: &[u8], input: &[u8], line: &mut [u8], have: usize, out: &mut [u8]) -> usize
+fn serve(
+    rt: &HostRuntime,
+    area: &[u8],
+    input: &[u8],
+    line: &mut [u8],
+    have: usize,
+    out: &mut [u8],
+) -> usize
     requires { Ready line.old have out.old }
     ensures clean { Held line.new result }
     ensures holds { (text : List ℕ) × Owes area.now (take have line.old) input.now text (take result line.new) [] }
@@ -154,32 +168,28 @@ fn serve(area: &[u8], input: &[u8], line: &mut [u8], have: usize, out: &mut [u8]
         held = progress.have;
         next = progress.next;
         let told = progress.at;
-        print(&out[..told]);
+        print(rt, &out[..told]);
     }
     held
 }
 
 // Serves all of the input, piece by piece as it is read. Where a read fails the input ends, and a line that has not ended is no name.
 // A proved loop has to end, and nothing says that the input does: the reads are counted down from 2^64 - 1.
-fn serve_all(area: &[u8], input: i32, line: &mut [u8], out: &mut [u8])
+fn serve_all<R: Read>(rt: &HostRuntime, area: &[u8], input: &mut R, line: &mut [u8], out: &mut [u8])
     requires { (name_max < length line.old) × (text_max ≤ length out.old) }
 {
-    let mut space = io::large_buffer();
+    let mut space = [0u8; PIECE_SPACE];
     let mut held = 0;
     let mut reads = u64::MAX;
     while reads > 0 {
-        let got = libc::read(input, &mut space);
-        if got < 0 {
-            return;
+        match input.read(&mut space) {
+            Ok(0) => break,
+            Ok(size) => held = serve(rt, area, &space[..size], line, held, out),
+            Err(_) => return,
         }
-        let size = io::count(got, &space);
-        if size == 0 {
-            break;
-        }
-        held = serve(area, &space[..size], line, held, out);
         reads -= 1;
     }
-    finish(area, &line[..held], out);
+    finish(rt, area, &line[..held], out);
 }
 
 // Puts what is owed for a last line without line feed at the start of the output. The next place.
@@ -191,27 +201,27 @@ fn last_text(area: &[u8], held: &[u8], out: &mut [u8]) -> usize
     answers::finish(area, held, out, 0)
 }
 
-fn finish(area: &[u8], held: &[u8], out: &mut [u8])
+fn finish(rt: &HostRuntime, area: &[u8], held: &[u8], out: &mut [u8])
     requires { (text_max ≤ length out.old) × Without line_feed held.now }
 {
     let told = last_text(area, held, out);
-    print(&out[..told]);
+    print(rt, &out[..told]);
 }
 
-fn print_answers(area: &[u8], input: i32) {
+fn print_answers<R: Read>(rt: &HostRuntime, area: &[u8], input: &mut R) {
     let mut line = [0u8; LINE_SPACE];
     let mut out = [0u8; ANSWERS_SPACE];
-    serve_all(area, input, &mut line, &mut out);
+    serve_all(rt, area, input, &mut line, &mut out);
 }
 
-// Prints a file's answer to each name of an input, given by its descriptor.
-pub fn lookup_file(file: &[u8], input: i32) {
+// Prints a file's answer to each name of an input.
+pub fn lookup_file<R: Read>(rt: &HostRuntime, file: &str, input: &mut R) {
     let mut space = [0u8; FILE_SPACE];
-    let size = load(file, &mut space);
-    print_answers(&space[..size], input);
+    let size = load(rt, file, &mut space);
+    print_answers(rt, &space[..size], input);
 }
 
 // The program lookup: area.bin, of the current folder, and standard input.
-pub fn lookup() {
-    lookup_file(&AREA, STDIN_FILENO);
+pub fn lookup(rt: &HostRuntime) {
+    lookup_file(rt, AREA, &mut rt.stdin());
 }

@@ -1,12 +1,9 @@
 -- One law for each way out of the steps of specs/Find.antt.
-use Rattle.std.proofs.Common.{◌≡◌, ℕ, ◌+◌, ◌%◌, true, false, List, [], ◌∷◌, sym, refl, ◌∙◌, ⊎_elim, arith, eq-eqb, ne_eqb}
-use types.Run.{OneOf}
-use denote.Enum.Declared.{tag_of}
+use Rattle.std.proofs.Common.{◌≡◌, ℕ, ◌+◌, ◌%◌, true, false, List, [], ◌∷◌, sym, refl, ◌∙◌, eq-eqb, ne_eqb}
 use Rattle.names.proofs.Laws.{segments_from, segments-whole}
 use Rattle.layout.specs.declared.refusal.Refusal.{Refusal}
 use Rattle.layout.specs.Layout.{root_at, prop_field, node_ok, entry_ok, word_at}
 use Rattle.layout.specs.Refusals.{Answer, accepted, refuse}
-use Rattle.trie.specs.contracts.trie.Searched.{the_type}
 use Rattle.trie.specs.declared.trie.Searched.{Searched}
 use Rattle.trie.specs.Header.{header_ok}
 use Rattle.trie.specs.Trie.{segment_steps}

@@ -9,25 +9,25 @@ use crate::listing::list_whole;
 use crate::saying::say;
 use layout::{Entry, Header, Verdict};
 
-fn add(area: &mut [u8], name: &[u8], value: &[u8]) {
+fn add(rt: &HostRuntime, area: &mut [u8], name: &[u8], value: &[u8]) {
     match builder::add(area, name, value) {
         Verdict::Accepted => {}
-        Verdict::Refused(why) => say(b"an add was refused\n"),
+        Verdict::Refused(why) => say(rt, b"an add was refused\n"),
     }
 }
 
 // The sound area.
-pub fn build(area: &mut [u8]) {
+pub fn build(rt: &HostRuntime, area: &mut [u8]) {
     match builder::format(area) {
         Verdict::Accepted => {}
-        Verdict::Refused(why) => say(b"format was refused\n"),
+        Verdict::Refused(why) => say(rt, b"format was refused\n"),
     }
     let value = [120u8; Entry::VALUE_MAX];
-    add(area, b"ab.c", b"12");
-    add(area, b"b", b"q");
-    add(area, b"z", &value);
-    add(area, b"ab", b"w");
-    add(area, b"ab.d", b"5");
+    add(rt, area, b"ab.c", b"12");
+    add(rt, area, b"b", b"q");
+    add(rt, area, b"z", &value);
+    add(rt, area, b"ab", b"w");
+    add(rt, area, b"ab.d", b"5");
 }
 
 // A number of a line, and the place behind the space that ends it.
@@ -101,14 +101,14 @@ fn change(area: &mut [u8], letter: u8, offset: usize, number: usize) {
 }
 
 // Another magic than the header's.
-pub fn another_magic(area: &mut [u8]) {
+pub fn another_magic(rt: &HostRuntime, area: &mut [u8]) {
     set_bytes(area, Header::MAGIC, 1, b'Q');
-    say(b"another magic");
-    list_whole(area);
+    say(rt, b"another magic");
+    list_whole(rt, area);
 }
 
 // Breaks the sound area in one way, and lists it.
-fn break_so(area: &mut [u8], way: &[u8]) {
+fn break_so(rt: &HostRuntime, area: &mut [u8], way: &[u8]) {
     if way.len() < 5 {
         return;
     }
@@ -117,11 +117,11 @@ fn break_so(area: &mut [u8], way: &[u8]) {
     }
     let offset = read_number(way, 5);
     let number = read_number(way, offset.next);
-    build(area);
+    build(rt, area);
     change(area, way[0], offset.value, number.value);
     let name = number.next;
-    say(&way[name..]);
-    list_whole(area);
+    say(rt, &way[name..]);
+    list_whole(rt, area);
 }
 
 // Where the line that begins at a place ends.
@@ -133,11 +133,11 @@ fn line_end(text: &[u8], from: usize) -> usize
 }
 
 // Breaks the sound area in each way of a text of lines.
-pub fn break_by(area: &mut [u8], ways: &[u8]) {
+pub fn break_by(rt: &HostRuntime, area: &mut [u8], ways: &[u8]) {
     let mut at = 0;
     while at < ways.len() {
         let end = line_end(ways, at);
-        break_so(area, &ways[at..end]);
+        break_so(rt, area, &ways[at..end]);
         at = end + 1;
     }
 }

@@ -11,21 +11,21 @@ mod breaking;
 mod listing;
 mod saying;
 
-use libc::STDIN_FILENO;
+use streams::read_full;
 
 // Breaks the area in each way of the input.
-fn break_all(area: &mut [u8]) {
+fn break_all(rt: &HostRuntime, area: &mut [u8]) {
     let mut ways = [0u8; 4096];
-    let size = io::read_full(STDIN_FILENO, &mut ways);
-    breaking::break_by(area, &ways[..size]);
+    let size = read_full(&mut rt.stdin(), &mut ways);
+    breaking::break_by(rt, area, &ways[..size]);
 }
 
-fn main() {
+fn main(rt: HostRuntime) {
     let mut area = [0u8; 1024];
-    break_all(&mut area);
-    breaking::build(&mut area);
-    listing::short_scratch(&area);
-    listing::short_list(&area);
-    listing::just_enough(&area);
-    breaking::another_magic(&mut area);
+    break_all(&rt, &mut area);
+    breaking::build(&rt, &mut area);
+    listing::short_scratch(&rt, &area);
+    listing::short_list(&rt, &area);
+    listing::just_enough(&rt, &area);
+    breaking::another_magic(&rt, &mut area);
 }

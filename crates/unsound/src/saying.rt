@@ -1,24 +1,17 @@
 // What is printed: texts, numbers, and a list of offsets.
-use libc::STDOUT_FILENO;
+use streams::print_number;
+pub use streams::{print as say, print_number as say_number};
 
-pub fn say(text: &[u8]) {
-    io::write_all(STDOUT_FILENO, text);
-}
-
-pub fn say_number(n: usize) {
-    io::print_decimal(STDOUT_FILENO, n as u64);
-}
-
-pub fn say_word(n: u32) {
-    io::print_decimal(STDOUT_FILENO, n as u64);
+pub fn say_word(rt: &HostRuntime, n: u32) {
+    print_number(rt, n as usize);
 }
 
 // Prints a place of a list, if it is there and was written.
-fn say_place(list: &[u32], i: usize) {
+fn say_place(rt: &HostRuntime, list: &[u32], i: usize) {
     if i < list.len() {
         if list[i] != 9 {
-            say(b" ");
-            say_word(list[i]);
+            say(rt, b" ");
+            say_word(rt, list[i]);
         }
     }
 }
@@ -32,19 +25,19 @@ fn kept(list: &[u32]) -> bool {
 }
 
 // Prints what was written to a list, or that it was kept.
-pub fn say_list(list: &[u32]) {
+pub fn say_list(rt: &HostRuntime, list: &[u32]) {
     if kept(list) {
-        say(b", list kept\n");
+        say(rt, b", list kept\n");
         return;
     }
-    say(b", list");
-    say_place(list, 0);
-    say_place(list, 1);
-    say_place(list, 2);
-    say_place(list, 3);
-    say_place(list, 4);
-    say_place(list, 5);
-    say_place(list, 6);
-    say_place(list, 7);
-    say(b"\n");
+    say(rt, b", list");
+    say_place(rt, list, 0);
+    say_place(rt, list, 1);
+    say_place(rt, list, 2);
+    say_place(rt, list, 3);
+    say_place(rt, list, 4);
+    say_place(rt, list, 5);
+    say_place(rt, list, 6);
+    say_place(rt, list, 7);
+    say(rt, b"\n");
 }

@@ -81,41 +81,41 @@ fn times(vectors: &[u8], opcode: u32, number: u32) -> usize {
     count
 }
 
-fn say_refused(vectors: &[u8], opcode: u32, number: u32) {
+fn say_refused(rt: &HostRuntime, vectors: &[u8], opcode: u32, number: u32) {
     let count = times(vectors, opcode, number);
     if 0 < count {
-        say(b", ");
-        say_number(count);
-        say(b" refused ");
-        say_number(number as usize);
+        say(rt, b", ");
+        say_number(rt, count);
+        say(rt, b" refused ");
+        say_number(rt, number as usize);
     }
 }
 
-fn say_refusals(vectors: &[u8], opcode: u32) {
+fn say_refusals(rt: &HostRuntime, vectors: &[u8], opcode: u32) {
     let mut number = 1;
     while number <= NUMBERS {
-        say_refused(vectors, opcode, number);
+        say_refused(rt, vectors, opcode, number);
         number += 1;
     }
 }
 
-fn say_call(vectors: &[u8], opcode: u32, name: &[u8]) {
-    say(name);
-    say(b": ");
-    say_number(times(vectors, opcode, 0));
-    say(b" accepted");
-    say_refusals(vectors, opcode);
-    say(b"\n");
+fn say_call(rt: &HostRuntime, vectors: &[u8], opcode: u32, name: &[u8]) {
+    say(rt, name);
+    say(rt, b": ");
+    say_number(rt, times(vectors, opcode, 0));
+    say(rt, b" accepted");
+    say_refusals(rt, vectors, opcode);
+    say(rt, b"\n");
 }
 
 // A line for each call, in the order of their opcodes.
-pub fn say_calls(vectors: &[u8]) {
-    say_call(vectors, 1, b"format");
-    say_call(vectors, 2, b"add");
-    say_call(vectors, 3, b"update");
-    say_call(vectors, 4, b"raw update");
-    say_call(vectors, 5, b"find");
-    say_call(vectors, 6, b"value");
-    say_call(vectors, 7, b"backup read");
-    say_call(vectors, 8, b"distance");
+pub fn say_calls(rt: &HostRuntime, vectors: &[u8]) {
+    say_call(rt, vectors, 1, b"format");
+    say_call(rt, vectors, 2, b"add");
+    say_call(rt, vectors, 3, b"update");
+    say_call(rt, vectors, 4, b"raw update");
+    say_call(rt, vectors, 5, b"find");
+    say_call(rt, vectors, 6, b"value");
+    say_call(rt, vectors, 7, b"backup read");
+    say_call(rt, vectors, 8, b"distance");
 }

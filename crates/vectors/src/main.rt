@@ -15,52 +15,51 @@ mod saying;
 
 use replay::{End, Report};
 use saying::{say, say_number};
+use std::fs;
+use streams::read_full;
 
 // Why the replay stopped, where it did not come to the end of the vectors.
-fn say_end(end: End) {
+fn say_end(rt: &HostRuntime, end: End) {
     match end {
-        End::Whole => say(b""),
-        End::Cut => say(b"; the data ends within a record"),
-        End::Unknown => say(b"; a record has an unknown opcode"),
-        End::NoRoom => say(b"; a record asks for more bytes than the buffers have"),
-        End::Surplus => say(b"; bytes are left behind the last record"),
+        End::Whole => say(rt, b""),
+        End::Cut => say(rt, b"; the data ends within a record"),
+        End::Unknown => say(rt, b"; a record has an unknown opcode"),
+        End::NoRoom => say(rt, b"; a record asks for more bytes than the buffers have"),
+        End::Surplus => say(rt, b"; bytes are left behind the last record"),
     }
 }
 
-fn show(report: Report) {
-    say_number(report.tally.records as usize);
-    say(b" records, ");
-    say_number(report.tally.calls as usize);
-    say(b" calls, ");
-    say_number(report.tally.differences as usize);
-    say(b" differences");
+fn show(rt: &HostRuntime, report: Report) {
+    say_number(rt, report.tally.records as usize);
+    say(rt, b" records, ");
+    say_number(rt, report.tally.calls as usize);
+    say(rt, b" calls, ");
+    say_number(rt, report.tally.differences as usize);
+    say(rt, b" differences");
     let end = report.end;
-    say_end(end);
-    say(b"\n");
+    say_end(rt, end);
+    say(rt, b"\n");
 }
 
 // Reads the vectors into the start of a buffer. A file that cannot be read counts as empty; one that is longer is cut.
-fn load(buf: &mut [u8]) -> usize
+fn load(rt: &HostRuntime, buf: &mut [u8]) -> usize
     ensures { IsPrefixLen result buf.new }
 {
-    let fd = os::open_read(b"vectors.bin");
-    if fd < 0 {
-        return 0;
+    match fs::open(rt, "vectors.bin") {
+        Ok(mut file) => read_full(&mut file, buf),
+        Err(_) => 0,
     }
-    let n = io::read_full(fd, buf);
-    libc::close(fd);
-    n
 }
 
-fn run(vectors: &[u8]) {
+fn run(rt: &HostRuntime, vectors: &[u8]) {
     let mut space = [0u8; 131080];
     let mut buffer = [0u8; 300];
-    counting::say_calls(vectors);
-    show(replay::replay(vectors, &mut space, &mut buffer));
+    counting::say_calls(rt, vectors);
+    show(rt, replay::replay(vectors, &mut space, &mut buffer));
 }
 
-fn main() {
+fn main(rt: HostRuntime) {
     let mut bytes = [0u8; 400000];
-    let n = load(&mut bytes);
-    run(&bytes[..n]);
+    let n = load(&rt, &mut bytes);
+    run(&rt, &bytes[..n]);
 }

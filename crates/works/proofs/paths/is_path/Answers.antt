@@ -33,15 +33,14 @@ returns-then-byte_or_zero-ne46 c =
     _ c.read_number-node.ensures.0 c.if-node-eq0.false c.loop-left.invariant.0 c.if-end-from-2.false _ c.byte_or_zero.ensures c.if-byte_or_zero-ne46.true)
 
 pub loop-left-preserved : goal.loop-left-preserved
-loop-left-preserved c =
-    (
-      omega arith,
-      omega arith,
-      omega arith,
-      c.loop-left.invariant.3 ∙ path-turn _ _ _ _ _ _ c.loop-left-test.true
-          ∙ step-on _ _ _ _ _ _ _ c.field-size.ensures c.if-end-from.false (sym c.same_at.ensures ∙ c.if-not-same_at.false)
-          _ c.read_number-node.ensures.0 c.if-node-eq0.false c.loop-left.invariant.0 c.if-end-from-2.false _ c.byte_or_zero.ensures c.if-byte_or_zero-ne46.false,
-    )
+loop-left-preserved c = (
+  omega arith,
+  omega arith,
+  omega arith,
+  c.loop-left.invariant.3 ∙ path-turn _ _ _ _ _ _ c.loop-left-test.true
+      ∙ step-on _ _ _ _ _ _ _ c.field-size.ensures c.if-end-from.false (sym c.same_at.ensures ∙ c.if-not-same_at.false)
+      _ c.read_number-node.ensures.0 c.if-node-eq0.false c.loop-left.invariant.0 c.if-end-from-2.false _ c.byte_or_zero.ensures c.if-byte_or_zero-ne46.false,
+)
 
 pub returns : goal.returns
 returns c = sym (c.loop-left.invariant.3 ∙ path-none _ _ _ _ _ _ c.loop-left-test.false)

@@ -24,12 +24,11 @@ returns-then-y-x c =
     ∙ names-greater _ _ _ c.loop-i.i (omega arith) (omega arith) _ _ c.byte_or_zero-x.ensures c.byte_or_zero-y.ensures c.if-x-y.false c.if-y-x.true))
 
 pub loop-i-preserved : goal.loop-i-preserved
-loop-i-preserved c =
-    (
-      omega arith,
-      c.loop-i.invariant.1
-          ∙ names-on _ _ _ c.loop-i.i (omega arith) (omega arith) _ _ c.byte_or_zero-x.ensures c.byte_or_zero-y.ensures c.if-x-y.false c.if-y-x.false,
-    )
+loop-i-preserved c = (
+  omega arith,
+  c.loop-i.invariant.1
+      ∙ names-on _ _ _ c.loop-i.i (omega arith) (omega arith) _ _ c.byte_or_zero-x.ensures c.byte_or_zero-y.ensures c.if-x-y.false c.if-y-x.false,
+)
 
 pub returns : goal.returns
 returns c = ap is_less (sym (c.loop-i.invariant.1 ∙ names-end _ _ _ c.loop-i.i (omega arith)))

@@ -1,0 +1,8 @@
+-- `last_text` leaves what is owed for the last line whole. Assumes nothing.
+use native.Mathlib.Omega.{arith}
+use Rattle.answers.proofs.Reaching.{end-within}
+use Rattle.printed.proofs.Promises.{end_whole}
+use Rattle.programs.proofs.last_text.Goals as goal
+
+pub returns : goal.returns
+returns c = let told = c.finish.ensures in record { within = (end-within _ _ _ 0 _ _ (omega arith) told).place; whole = end_whole _ _ _ _ _ told (omega arith) c.requires.1 }
