@@ -1,4 +1,4 @@
-// The exported C functions. bindings/c/property_area.h declares them.
+// The C functions, and C's structs. The crate capi_c exports them; bindings/c/property_area.h declares them.
 #![tactic(auto)]
 
 ghost use Rattle.std.specs.Prelude.{◌≡◌};
@@ -52,15 +52,13 @@ pub struct PaCount {
     pub count: u32,
 }
 
-#[unsafe(no_mangle)]
-pub extern "C" fn pa_format(area: &mut [u8]) -> u32
+pub fn pa_format(area: &mut [u8]) -> u32
     ensures { leaves result area.new ≡ format_steps area.old }
 {
     builder::format(area).number()
 }
 
-#[unsafe(no_mangle)]
-pub extern "C" fn pa_find(area: &[u8], name: &[u8]) -> PaFound
+pub fn pa_find(area: &[u8], name: &[u8]) -> PaFound
     ensures { result ≡ found_struct (find_steps area.now name.now) }
 {
     match property_area::find(area, name) {
@@ -96,22 +94,19 @@ fn part_of(place: AreaPart) -> PaPart
     }
 }
 
-#[unsafe(no_mangle)]
-pub extern "C" fn pa_value(area: &[u8], entry: u32) -> PaPart
+pub fn pa_value(area: &[u8], entry: u32) -> PaPart
     ensures { result ≡ part_struct (value_steps area.now entry) }
 {
     part_of(property_area::value(area, entry))
 }
 
-#[unsafe(no_mangle)]
-pub extern "C" fn pa_name(area: &[u8], entry: u32) -> PaPart
+pub fn pa_name(area: &[u8], entry: u32) -> PaPart
     ensures { result ≡ part_struct (name_steps area.now entry) }
 {
     part_of(property_area::name(area, entry))
 }
 
-#[unsafe(no_mangle)]
-pub extern "C" fn pa_serial(area: &[u8], entry: u32) -> PaSerial
+pub fn pa_serial(area: &[u8], entry: u32) -> PaSerial
     ensures { result ≡ serial_struct (serial_steps area.now entry) }
 {
     match property_area::serial(area, entry) {
@@ -126,43 +121,37 @@ pub extern "C" fn pa_serial(area: &[u8], entry: u32) -> PaSerial
     }
 }
 
-#[unsafe(no_mangle)]
-pub extern "C" fn pa_add(area: &mut [u8], name: &[u8], value: &[u8]) -> u32
+pub fn pa_add(area: &mut [u8], name: &[u8], value: &[u8]) -> u32
     ensures { leaves result area.new ≡ outcome (add_steps area.old name.now value.now) }
 {
     builder::add(area, name, value).number()
 }
 
-#[unsafe(no_mangle)]
-pub extern "C" fn pa_update(area: &mut [u8], name: &[u8], value: &[u8]) -> u32
+pub fn pa_update(area: &mut [u8], name: &[u8], value: &[u8]) -> u32
     ensures { leaves result area.new ≡ update_steps area.old name.now value.now }
 {
     updates::update(area, name, value).number()
 }
 
-#[unsafe(no_mangle)]
-pub extern "C" fn pa_raw_update(area: &mut [u8], entry: u32, backup: &[u8], value: &[u8]) -> u32
+pub fn pa_raw_update(area: &mut [u8], entry: u32, backup: &[u8], value: &[u8]) -> u32
     ensures { leaves result area.new ≡ raw_steps area.old entry backup.now value.now }
 {
     updates::backup_and_apply_write(area, entry, backup, value).number()
 }
 
-#[unsafe(no_mangle)]
-pub extern "C" fn pa_backup_read(area: &[u8], buffer: &mut [u8]) -> u32
+pub fn pa_backup_read(area: &[u8], buffer: &mut [u8]) -> u32
     ensures { leaves result buffer.new ≡ backup_steps area.now buffer.old }
 {
     property_area::read_dirty_backup(area, buffer).number()
 }
 
-#[unsafe(no_mangle)]
-pub extern "C" fn pa_check(area: &[u8], scratch: &mut [u8]) -> u32
+pub fn pa_check(area: &[u8], scratch: &mut [u8]) -> u32
     ensures { CheckReturns area.now scratch.old result scratch.new }
 {
     audit::check(area, scratch).number()
 }
 
-#[unsafe(no_mangle)]
-pub extern "C" fn pa_list(area: &[u8], scratch: &mut [u8], list: &mut [u32]) -> PaCount
+pub fn pa_list(area: &[u8], scratch: &mut [u8], list: &mut [u32]) -> PaCount
     ensures { ListReturns area.now scratch.old list.old result scratch.new list.new }
 {
     match audit::list(area, scratch, list) {
@@ -177,8 +166,7 @@ pub extern "C" fn pa_list(area: &[u8], scratch: &mut [u8], list: &mut [u32]) -> 
     }
 }
 
-#[unsafe(no_mangle)]
-pub extern "C" fn pa_dump(
+pub fn pa_dump(
     area: &[u8],
     scratch: &mut [u8],
     list: &mut [u32],
@@ -198,8 +186,7 @@ pub extern "C" fn pa_dump(
     }
 }
 
-#[unsafe(no_mangle)]
-pub extern "C" fn pa_update_distance(earlier: u32, later: u32) -> u32
+pub fn pa_update_distance(earlier: u32, later: u32) -> u32
     ensures { result ≡ distance earlier later }
 {
     counters::update_distance(earlier, later)
