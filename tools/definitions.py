@@ -6,7 +6,7 @@ TOP = pathlib.Path(__file__).resolve().parent.parent
 USE = re.compile(r"^\s*(?:(?:abbrev|unfoldable) )?(?:ghost |pub )*use (\S+?)(?:\.\{(.*)\}| as (\S+?));?$")
 HEAD = re.compile(r"^(?:(?:abbrev|unfoldable) )?(pub )?(data |record )?(\S+)(?= .*:| :|:$)")
 MEMBERS = re.compile(r"^(?:pub )?([^(){}→:]+) :(?: |$)")
-MODULE = re.compile(r"Rattle·(\w+?)(?:·\w+)?\.(specs|proofs)\.(.+)")
+MODULE = re.compile(r"Rattle\.(\w+)\.(specs|proofs)\.(.+)")
 WORD = re.compile(r"[^\s(){},;\[\]⌜⌝]+")
 
 
