@@ -3,19 +3,23 @@
 // long value, an empty one, and bytes that are escaped.
 #![tactic(auto)]
 
-fn show(rt: &HostRuntime, file: &str) {
-    let _ = println!(rt; "-- {file}");
+use streams::print;
+
+fn show(rt: &HostRuntime, file: &[u8]) {
+    print(rt, b"-- ");
+    print(rt, file);
+    print(rt, b"\n");
     programs::dump_file(rt, file);
 }
 
 fn main(rt: HostRuntime) {
-    show(&rt, "empty.area");
-    show(&rt, "short.area");
-    show(&rt, "large.area");
-    show(&rt, "largest.area");
-    show(&rt, "most.area");
-    show(&rt, "damaged.area");
-    show(&rt, "missing.area");
-    show(&rt, ".");
-    show(&rt, "values.area");
+    show(&rt, b"empty.area");
+    show(&rt, b"short.area");
+    show(&rt, b"large.area");
+    show(&rt, b"largest.area");
+    show(&rt, b"most.area");
+    show(&rt, b"damaged.area");
+    show(&rt, b"missing.area");
+    show(&rt, b".");
+    show(&rt, b"values.area");
 }

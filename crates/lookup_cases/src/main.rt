@@ -3,23 +3,26 @@
 #![tactic(auto)]
 
 use std::fs;
+use streams::print;
 
-fn show(rt: &HostRuntime, file: &str, names: &str) {
-    let _ = println!(rt; "-- {file} {names}");
+fn show(rt: &HostRuntime, file: &[u8], names: &str) {
+    print(rt, b"-- ");
+    print(rt, file);
+    print(rt, b" ");
+    print(rt, names.as_bytes());
+    print(rt, b"\n");
     match fs::open(rt, names) {
         Ok(mut input) => programs::lookup_file(rt, file, &mut input),
-        Err(_) => {
-            let _ = println!(rt; "no input");
-        }
+        Err(_) => print(rt, b"no input\n"),
     }
 }
 
 fn main(rt: HostRuntime) {
-    show(&rt, "settled.area", "long.names");
-    show(&rt, "settled.area", "none.names");
-    show(&rt, "large.area", "large.names");
-    show(&rt, "missing.area", "missing.names");
-    show(&rt, ".", "missing.names");
-    show(&rt, "settled.area", ".");
-    show(&rt, "damaged.area", "damaged.names");
+    show(&rt, b"settled.area", "long.names");
+    show(&rt, b"settled.area", "none.names");
+    show(&rt, b"large.area", "large.names");
+    show(&rt, b"missing.area", "missing.names");
+    show(&rt, b".", "missing.names");
+    show(&rt, b"settled.area", ".");
+    show(&rt, b"damaged.area", "damaged.names");
 }

@@ -20,7 +20,7 @@ use std::io::Read;
 use streams::{print, read_full};
 
 // The programs' file, in the current folder.
-const AREA: &str = "area.bin";
+const AREA: [u8; 8] = *b"area.bin";
 
 // Space for a file, and for a line of the input: one byte more than may be, so that more is seen.
 const FILE_SPACE: usize = FILE_MAX + 1;
@@ -71,11 +71,15 @@ fn read_whole(file: &mut File, buf: &mut [u8]) -> usize
     readable_size(size, behind)
 }
 
-// Reads a file into the start of a buffer, and answers how many bytes. A file that cannot be read to its end counts as empty; of a longer one there are as many bytes as the buffer has.
-fn load(rt: &HostRuntime, file: &str, buf: &mut [u8]) -> usize
+// Reads a file into the start of a buffer, and answers how many bytes. A file that cannot be read to its end counts as empty, and so does one whose name is no text; of a longer one there
+// are as many bytes as the buffer has.
+fn load(rt: &HostRuntime, file: &[u8], buf: &mut [u8]) -> usize
     ensures { IsPrefixLen result buf.new }
 {
-    match fs::open(rt, file) {
+    let Ok(path) = std::str::from_utf8(file) else {
+        return 0;
+    };
+    match fs::open(rt, path) {
         Ok(mut opened) => read_whole(&mut opened, buf),
         Err(_) => 0,
     }
@@ -101,7 +105,7 @@ fn print_dump(rt: &HostRuntime, area: &[u8]) {
 }
 
 // Prints the dump of a file.
-pub fn dump_file(rt: &HostRuntime, file: &str) {
+pub fn dump_file(rt: &HostRuntime, file: &[u8]) {
     let mut space = [0u8; FILE_SPACE];
     let size = load(rt, file, &mut space);
     print_dump(rt, &space[..size]);
@@ -109,7 +113,7 @@ pub fn dump_file(rt: &HostRuntime, file: &str) {
 
 // The program dump: area.bin, of the current folder.
 pub fn dump(rt: &HostRuntime) {
-    dump_file(rt, AREA);
+    dump_file(rt, &AREA);
 }
 
 // ---- lookup
@@ -215,7 +219,7 @@ fn print_answers<R: Read>(rt: &HostRuntime, area: &[u8], input: &mut R) {
 }
 
 // Prints a file's answer to each name of an input.
-pub fn lookup_file<R: Read>(rt: &HostRuntime, file: &str, input: &mut R) {
+pub fn lookup_file<R: Read>(rt: &HostRuntime, file: &[u8], input: &mut R) {
     let mut space = [0u8; FILE_SPACE];
     let size = load(rt, file, &mut space);
     print_answers(rt, &space[..size], input);
@@ -223,5 +227,5 @@ pub fn lookup_file<R: Read>(rt: &HostRuntime, file: &str, input: &mut R) {
 
 // The program lookup: area.bin, of the current folder, and standard input.
 pub fn lookup(rt: &HostRuntime) {
-    lookup_file(rt, AREA, &mut rt.stdin());
+    lookup_file(rt, &AREA, &mut rt.stdin());
 }
