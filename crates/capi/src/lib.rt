@@ -166,12 +166,7 @@ pub fn pa_list(area: &[u8], scratch: &mut [u8], list: &mut [u32]) -> PaCount
     }
 }
 
-pub fn pa_dump(
-    area: &[u8],
-    scratch: &mut [u8],
-    list: &mut [u32],
-    room: &mut [u8],
-) -> PaCount
+pub fn pa_dump(area: &[u8], scratch: &mut [u8], list: &mut [u32], room: &mut [u8]) -> PaCount
     ensures { DumpReturns area.now scratch.old list.old room.old result room.new scratch.new list.new }
 {
     match dumping::dump_into(area, scratch, list, room) {

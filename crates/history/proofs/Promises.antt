@@ -243,6 +243,6 @@ module _ (n : ℕ) (low : format_min ≤ n) (high : n ≤ area_max) (ops : List 
         apart = (room_says (used_of (after (fresh n) ops)) r.now now.front.low now.room).0;
         used = fresh-run-used;
         count = run-count (fresh n) first_free leaf whole ops;
-        cost = run-cost (fresh n) first_free leaf whole ops;
+        cost = λ name. omega (arith, walk-bound (after (fresh n) ops) r.grown r.now r.sound name, r.sound.front.mark);
         reads = run-reads (fresh n) first_free leaf whole ops;
       }

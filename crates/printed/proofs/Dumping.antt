@@ -20,11 +20,8 @@ use Rattle.texts.proofs.Laws.{put_front}
 use Rattle.answers.specs.Answers.{file_max}
 use Rattle.dumping.specs.Dump.{dump_text, file_listing}
 use Rattle.printed.specs.Printed.{judged_dump, file_dump}
+use Rattle.printed.proofs.Entries.{entries_max}
 use Rattle.printed.proofs.TreeLines.{tree-lines}
-
--- no file has more entries: 124 * entries ≤ 65,536 - 128 - 112
-abbrev pub entries_max : ℕ
-entries_max = 526
 
 -- what is printed of a listing
 abbrev listing_text : List ℕ → Listing → List ℕ

@@ -1,3 +1,4 @@
+pub mod Entries
 pub mod TreeLines
 pub mod Sizes
 pub mod DumpSize

@@ -21,7 +21,7 @@ use Rattle.printed.proofs.TreeLines as tree_laws
 use Rattle.printed.proofs.Sizes as sizes
 use Rattle.printed.proofs.DumpSize as dump_size
 use Rattle.printed.proofs.Dumping as dumping
-use dumping.{entries_max}
+use Rattle.printed.proofs.Entries.{entries_max}
 use Rattle.printed.proofs.Filling as filling
 use filling.{FillTells}
 use Rattle.printed.proofs.Serving as serving

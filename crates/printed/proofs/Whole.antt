@@ -18,7 +18,8 @@ use Rattle.dumping.specs.Dump.{dump_text, dumps, dump_listing, file_listing, Dum
 use Rattle.printed.specs.Printed.{file_dump, fed_text, fed_held, fed_next, end_text}
 use Rattle.printed.proofs.Sizes.{answer-small}
 use Rattle.printed.proofs.DumpSize.{dump-small}
-use Rattle.printed.proofs.Dumping.{entries_max, dump-prints}
+use Rattle.printed.proofs.Dumping.{dump-prints}
+use Rattle.printed.proofs.Entries.{entries_max}
 use Rattle.printed.proofs.Serving.{turn-serves, turn-says}
 
 -- ---- a turn

@@ -3,7 +3,7 @@ use Prim.Native.Nat.{ℕ, ◌*◌, ◌/◌, ◌≤◌}
 use native.Mathlib.Omega.{arith}
 use Rattle.answers.specs.Answers.{file_max}
 use Rattle.dumping.proofs.Reaching.{dump-within}
-use Rattle.printed.proofs.Dumping.{entries_max}
+use Rattle.printed.proofs.Entries.{entries_max}
 use Rattle.printed.proofs.Promises.{dump-whole}
 use Rattle.programs.proofs.Laws.{lends}
 use Rattle.programs.proofs.dump_text.Goals as goal
