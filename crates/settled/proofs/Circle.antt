@@ -1,7 +1,7 @@
 -- Where the bound on nodes bites, computed from the definitions: node "b" at 112, whose left link leads to itself, in an area of 264 bytes (data size 136). A search
 -- for "a" compares 136 / 20 + 1 = 7 nodes, would need another, and is refused with 5.
 use mathlib.Core.Path.{◌≡◌, refl}
-use mathlib.Core.List.{List, [], ◌∷◌}
+use mathlib.Core.List.{List, []}
 use Prim.Native.Nat.{ℕ, suc}
 use lib.ListN.{length, replicate}
 use Rattle.words.specs.Words.{little_at, little_bytes, first_in, same_bytes, put}

@@ -3,7 +3,7 @@
 -- The measure is what is left of the input. Assumes nothing.
 use Prim.Native.Nat.{ℕ, ◌-◌, ◌≤◌}
 use mathlib.Core.Path.{◌≡◌}
-use mathlib.Core.List.{List, []}
+use mathlib.Core.List.{List}
 use lib.ListN.{length, take, drop}
 use Rattle.sound.specs.Sound.{Without}
 use Rattle.texts.specs.Text.{line_feed}
