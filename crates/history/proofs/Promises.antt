@@ -27,7 +27,7 @@ use Rattle.builder.specs.Add.{any_empty, name_verdict}
 use Rattle.sound.specs.Tree.{short, bare, entry, Tree, leaf, listed}
 use Rattle.sound.specs.Sound.{Has, Sound}
 use Rattle.finding.specs.Look.{look, node_bytes, summed}
-use Rattle.finding.proofs.Promises.{walk-bound, find-count, walk-reads}
+use Rattle.finding.proofs.Promises.{find-count, walk-reads}
 use Rattle.sound.proofs.Promises.{room_says}
 use Rattle.audit.specs.Check.{used_of, Judged, blank, scratch_min, check_steps, lists, list_steps}
 use Rattle.audit.proofs.Promises.{check-accepts, list-accepts}
@@ -39,7 +39,7 @@ use Rattle.history.specs.Demand.{Demand}
 use Rattle.history.proofs.FreshSound as fresh_sound
 use Rattle.history.proofs.OneCall as one_call
 use Rattle.history.proofs.Showing.{shown-which}
-use Rattle.history.proofs.Run.{ran, matched-shows}
+use Rattle.history.proofs.Run.{ran, matched-shows, sound-cost}
 use Rattle.history.proofs.Telling as telling
 use telling.{by-mark, told-matches}
 use Rattle.history.proofs.Adding as adding
@@ -143,7 +143,7 @@ module _ (area : List ℕ) (used : ℕ) (tree : Tree) (sound : Sound area used t
   pub run-cost : (name : List ℕ) → length (walked (after area ops) name) ≤ (header_word (after area ops) used_field - first_free) / 24
   run-cost name =
       let r = ran ops area used tree sound in
-      omega (arith, walk-bound (after area ops) r.grown r.now r.sound name, r.sound.front.mark)
+      sound-cost (after area ops) r.grown r.now r.sound name
 
   -- ---- found, it tells just that count
   pub run-count : (name : List ℕ) (at count : ℕ) → find_steps (after area ops) name ≡ accepted (hit at count) → count ≡ length (walked (after area ops) name)
@@ -243,6 +243,6 @@ module _ (n : ℕ) (low : format_min ≤ n) (high : n ≤ area_max) (ops : List 
         apart = (room_says (used_of (after (fresh n) ops)) r.now now.front.low now.room).0;
         used = fresh-run-used;
         count = run-count (fresh n) first_free leaf whole ops;
-        cost = λ name. omega (arith, walk-bound (after (fresh n) ops) r.grown r.now r.sound name, r.sound.front.mark);
+        cost = sound-cost (after (fresh n) ops) r.grown r.now r.sound;
         reads = run-reads (fresh n) first_free leaf whole ops;
       }

@@ -1,20 +1,24 @@
 -- A run of calls over a sound area, by one call after the other.
-use Prim.Native.Nat.{ℕ, ◌+◌}
+use Prim.Native.Nat.{ℕ, ◌+◌, ◌-◌, ◌/◌, ◌≤◌}
 use native.Mathlib.Omega.{arith}
 use mathlib.Core.Path.{◌≡◌, refl, sym, ap, ◌∙◌}
 use mathlib.Core.Logic.{◌⊎◌, inl, inr}
 use mathlib.Core.Bool.{cond}
 use mathlib.Core.List.{List, [], ◌∷◌, ◌++◌}
 use mathlib.Core.Option.{Option, none, some}
+use lib.ListN.{length}
 use Rattle.builder.proofs.Used.{total-append}
 use Rattle.allocation.specs.Steps.{total}
 use Rattle.layout.specs.declared.refusal.Refusal.{Refusal}
 use Rattle.layout.specs.Refusals.{accepted, refuse, bytes_in}
+use Rattle.layout.specs.Layout.{used_field, first_free, header_word}
 use Rattle.counters.specs.Distance.{serial_after}
 use Rattle.counters.proofs.Laws.{after_both}
 use Rattle.sound.specs.Tree.{Value, Entry, bare, entry, Tree}
 use Rattle.sound.specs.Sound.{Sound}
 use Rattle.property_area.specs.Lookup.{shown}
+use Rattle.property_area.specs.Walked.{walked}
+use Rattle.finding.proofs.Promises.{walk-bound}
 use Rattle.history.specs.History.{Op, call, after, hear, heeded, told, told_by, AsTold, size_in, update_sizes, op_rooms, given}
 use Rattle.history.specs.Lack.{entry_of}
 use Rattle.history.proofs.Showing.{shown-some, shown-none}
@@ -84,3 +88,7 @@ module _ (area : List ℕ) (used : ℕ) (tree : Tree) (sound : Sound area used t
       by (inl e) = rw e tt
       by (inr e) = rw e tt
   shown-matches (entry at serial full v) h = rw (shown-some area used tree sound name at serial full v h).0 refl
+
+-- ---- a search in a sound area compares at most (used - 112) / 24 nodes
+pub sound-cost : (area : List ℕ) (used : ℕ) (tree : Tree) → Sound area used tree → (name : List ℕ) → length (walked area name) ≤ (header_word area used_field - first_free) / 24
+sound-cost area used tree sound name = omega (arith, walk-bound area used tree sound name, sound.front.mark)

@@ -1,5 +1,4 @@
 -- `checking::front_ok` is the test `front_ok`: a law for each way out. Assumes nothing.
--- Places: f with the data's size, n, p, l where namelen, prop and left have been read.
 use Rattle.audit.proofs.RootLaws.{front-odd, front_low, front-past, front-namelen, front-prop, front-left, front-right}
 use Rattle.audit.proofs.checking.front_ok.Goals as goal
 

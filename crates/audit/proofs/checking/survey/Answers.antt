@@ -1,5 +1,4 @@
 -- `checking::survey` clears scratch, walks, clears it again, and tells what the walk decided. Assumes nothing.
--- Places: e where the front is as it ought to be, w with the used mark, k with scratch cleared, t with the walk, s the start.
 use mathlib.Core.Path.{sym, ap, ◌∙◌}
 use borrow.Author.Tests.{not-true, not-false}
 use lib.ListN.{length}

@@ -1,5 +1,4 @@
 -- `probe::node_room` gives the words of the node at an offset, or 0, as `node_room` says. Assumes nothing.
--- Places: f where a node fits, n with its name's length, s where the name fits, p where it is plain.
 use mathlib.Core.Path.{sym, ◌∙◌}
 use Rattle.probes.proofs.ProbeLaws.{room-odd, room-low, room-past, room-nameless, room-long, room-dotted, room_open, room_whole}
 use Rattle.probes.proofs.probe.node_room.Goals as goal

@@ -1,6 +1,5 @@
 -- `paths::is_path` says what `is_path` says. The loop's invariant: the whole is the path of n exactly if what stands before `end` is that of `node`.
 -- The measure is how many segments may be left. Assumes nothing.
--- Places: t in the loop, f with the length, s where it fits, a with the bytes compared, o with the owner, m where more is left.
 use Prim.Native.Nat.{◌+◌, ◌-◌, ◌≤◌, ◌<◌}
 use mathlib.Core.Path.{◌≡◌}
 use Rattle.walk.specs.Model.{path_back}
