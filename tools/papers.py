@@ -119,10 +119,10 @@ def refusals(found):
     yield from tabled(header)
     told = {(case, number) for case, (number, _) in header.items() if case != "Accepted"}
     code = read("crates/layout/src/refusal.rt")
-    cases = re.findall(r"^    (\w+),$", code.partition("pub enum Refusal {")[2].partition("\n}")[0], re.M)
+    cases = re.findall(r"^    (\w+) = \d+,$", code.partition("pub enum Refusal {")[2].partition("\n}")[0], re.M)
     lists = {
         "crates/layout/specs/Refusals.antt": set(re.findall(r"^number_of Refusal\.(\w+) = (\d+)$", read("crates/layout/specs/Refusals.antt"), re.M)),
-        "crates/layout/src/refusal.rt": set(re.findall(r"^\s+Refusal::(\w+) => (\d+),$", code, re.M)),
+        "crates/layout/src/refusal.rt": set(re.findall(r"^    (\w+) = (\d+),$", code, re.M)),
         "docs/RULES.md": {(case, number) for number, case in re.findall(r"^\| (\d+) \| (\w+) \|", read("docs/RULES.md"), re.M)},
     }
     for name, rows in lists.items():

@@ -1,9 +1,9 @@
--- One law for each way out of an allocation, and what room that was given means.
-use mathlib.Core.Path.{◌≡◌, refl}
+-- What room that was given means.
+use mathlib.Core.Path.{◌≡◌}
 use mathlib.Core.List.{List, []}
-use Prim.Native.Nat.{ℕ, ◌+◌, ◌≤◌, ◌<◌}
+use Prim.Native.Nat.{ℕ, ◌+◌, ◌≤◌}
 use native.Mathlib.Omega.{arith}
-use borrow.Author.Tests.{lt-ltb, le-ltb, ltb-false}
+use borrow.Author.Tests.{ltb-false}
 use lib.ListN.{length}
 use lib.Dec.{ltb}
 use Rattle.words.specs.Words.{little_bytes, put}
@@ -15,25 +15,6 @@ use Rattle.layout.specs.Layout.{word_size, word_max, used_field, data_size, head
 use Rattle.allocation.specs.Steps.{goes, stop_by}
 use Rattle.allocation.specs.View.{seen}
 use Rattle.allocation.specs.Allocate.{allocate}
-
--- used is the word that was read, pad the padded size
-module _ (area : List ℕ) (room used pad : ℕ) (e : used ≡ header_word area used_field) (f : pad ≡ room) where
-  pub allocate-large : word_max < used + pad → stop_by area Refusal.TooLarge ≡ seen (allocate area room)
-  unfolding allocate seen
-  allocate-large h = rw (← f, ← e, lt-ltb word_max (used + pad) h)
-
-  module _ (h : used + pad ≤ word_max) where
-    pub allocate-full : data_size area < used + pad → stop_by area Refusal.NoRoom ≡ seen (allocate area room)
-    unfolding allocate seen
-    allocate-full k = rw (← f, ← e, le-ltb word_max (used + pad) h, lt-ltb (data_size area) (used + pad) k)
-
-    pub allocate-goes : used + pad ≤ data_size area → (after : List ℕ) → after ≡ put area used_field (little_bytes 4 (used + pad)) → goes used after [] ≡ seen (allocate area room)
-    unfolding allocate run seen
-    allocate-goes k after g = rw (← f, ← e, le-ltb word_max (used + pad) h, le-ltb (data_size area) (used + pad) k, g)
-
--- a padded size that is over 32 bits alone needs no sum
-pub allocate-huge : (area : List ℕ) (room : ℕ) → word_max < room → stop_by area Refusal.TooLarge ≡ seen (allocate area room)
-allocate-huge area room h = allocate-large area room (header_word area used_field) room refl refl (omega arith)
 
 -- ---- room that was given: where it stands, that it lies in the area and in 32 bits, and where the next room will stand
 pub record Room (area after : List ℕ) (room at : ℕ) : Type 0 where

@@ -1,5 +1,5 @@
 -- What the answers promise: the lookup prints what the history speaks of; no second outcome, of the answer, the turn and the end, the lent bytes with them.
--- A turn's places are one by Reaching; all else is proved here, in a line or two.
+-- All is proved here, in a line or two.
 use Prim.Native.Nat.{ℕ, ◌≤◌}
 use mathlib.Core.Path.{◌≡◌, sym, ◌∙◌}
 use mathlib.Core.Bool.{true}
@@ -11,8 +11,6 @@ use Rattle.texts.specs.Text.{saying, said}
 use Rattle.texts.proofs.Promises.{one-said}
 use Rattle.answers.specs.Answers.{name_max, file_ok, ask_steps, answer_line, answer_text}
 use Rattle.answers.specs.Lines.{turned, turn_steps, end_steps}
-use Rattle.answers.specs.declared.Progress.{Progress}
-use Rattle.answers.proofs.Reaching.{same-progress}
 
 -- ---- in a file of an area's header, a name that is not too long gets the line of what a lookup shows
 pub answer-shows : (area name : List ℕ) → file_ok area ≡ true → length name ≤ name_max → answer_text area name ≡ answer_line (shown area name)
@@ -24,12 +22,12 @@ pub one_answer : (area name out : List ℕ) (at r s : ℕ) (a b : List ℕ) → 
     → (r ≡ s) × (a ≡ b)
 one_answer area name out at r s a b p q = one-said out at (answer_text area name) r s a b p q
 
-pub one-turn : (area input : List ℕ) (from : ℕ) (line : List ℕ) (have : ℕ) (out : List ℕ) (at : ℕ) (r s : Progress) (a b c d : List ℕ)
-    → turned r.have r.next a (saying r.at c) ≡ turn_steps area input from line have out at
-    → turned s.have s.next b (saying s.at d) ≡ turn_steps area input from line have out at → (r ≡ s) × (a ≡ b) × (c ≡ d)
-one-turn area input from line have out at r s a b c d p q =
-    let e : turned r.have r.next a (saying r.at c) ≡ turned s.have s.next b (saying s.at d) = p ∙ sym q in
-    (same-progress r s (cc) (cc) (cc), (cc), (cc))
+pub one-turn : (area input : List ℕ) (from : ℕ) (line : List ℕ) (have : ℕ) (out : List ℕ) (at : ℕ) (h k m n r s : ℕ) (a b c d : List ℕ)
+    → turned h m a (saying r c) ≡ turn_steps area input from line have out at
+    → turned k n b (saying s d) ≡ turn_steps area input from line have out at → (h ≡ k) × (m ≡ n) × (r ≡ s) × (a ≡ b) × (c ≡ d)
+one-turn area input from line have out at h k m n r s a b c d p q =
+    let e : turned h m a (saying r c) ≡ turned k n b (saying s d) = p ∙ sym q in
+    ((cc), (cc), (cc), (cc), (cc))
 
 pub one-finish : (area held out : List ℕ) (at r s : ℕ) (a b : List ℕ) → saying r a ≡ end_steps area held out at → saying s b ≡ end_steps area held out at → (r ≡ s) × (a ≡ b)
 one-finish area held out at r s a b p q = let e : saying r a ≡ saying s b = p ∙ sym q in ((cc), (cc))

@@ -1,4 +1,4 @@
--- Places and lengths after the calls: the next place lies within the output, and no buffer's length changes; when two turns' places are one.
+-- Places and lengths after the calls: the next place lies within the output, and no buffer's length changes.
 use Prim.Native.Nat.{ℕ, ◌≤◌, ◌<◌}
 use native.Mathlib.Omega.{arith}
 use mathlib.Core.Path.{◌≡◌, refl, sym}
@@ -12,7 +12,6 @@ use Rattle.texts.proofs.Laws.{said-within}
 use Rattle.texts.proofs.Promises.{feed-fits, next-moves}
 use Rattle.answers.specs.Answers.{answer_text}
 use Rattle.answers.specs.Lines.{turned, turn_fed, turn_steps, end_steps}
-use Rattle.answers.specs.declared.Progress.{Progress}
 
 pub record Fits (out after : List ℕ) (next : ℕ) : Type 0 where
   pub place : next ≤ length after
@@ -64,10 +63,3 @@ module _ (area input : List ℕ) (from : ℕ) (line : List ℕ) (have : ℕ) (ou
           let t : told ≡ at = cc in
           let o : after ≡ out = cc in
           rest k n false l is (cc) (cc) (omega arith) (record { place = rw (t, o) a; size = rw o })
-
--- ---- two turns that leave the same places are one
-pub same-progress : (r s : Progress) → r.have ≡ s.have → r.next ≡ s.next → r.at ≡ s.at → r ≡ s
-same-progress r s = one r.have s.have r.next s.next r.at s.at
-  where
-    one : (t u m n v w : ℕ) → t ≡ u → m ≡ n → v ≡ w → ◌≡◌ {A = Progress} (record { have = t; next = m; at = v }) (record { have = u; next = n; at = w })
-    one t u m n v w g h k = rw (g, h, k)

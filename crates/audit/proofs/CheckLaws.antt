@@ -1,4 +1,5 @@
--- Laws of check and listing: each way out of the code, whatever is judged of the area.
+-- Laws of check and listing: for the ways out of the code, whatever is judged of the area.
+use Rattle.std.specs.Prelude.{Result, Ok, Err}
 use Prim.Native.Nat.{ℕ, ◌+◌, ◌*◌, ◌/◌, ◌≤◌, ◌<◌}
 use native.Mathlib.Omega.{arith}
 use native.Mathlib.Decide.{dec_lt}
@@ -7,13 +8,12 @@ use mathlib.Core.Bool.{Bool, true, false, false≢true}
 use mathlib.Core.List.{List, []}
 use lib.Dec.{leb}
 use lib.ListN.{length, get_or, replicate, length-replicate, get_or-replicate, get_or-eq_default}
-use borrow.Author.Tests.{le-leb, lt-leb, leb-true}
+use borrow.Author.Tests.{le-leb, leb-true}
 use Rattle.words.proofs.Laws.{bool_cases, clash}
 use Rattle.words.specs.Words.{put}
 use Rattle.layout.specs.declared.refusal.Refusal.{Refusal}
-use Rattle.layout.specs.declared.refusal.Verdict.{Verdict}
 use Rattle.layout.specs.Layout.{word_size, used_field}
-use Rattle.layout.specs.Refusals.{Answer, accepted, refused, refuse, no_refusal, verdict_number, Outcome, leaves}
+use Rattle.layout.specs.Refusals.{pass, fail, Answer, accepted, refused, refuse, no_refusal, verdict_number, Outcome, leaves}
 use Rattle.trie.specs.Header.{header_ok}
 use Rattle.trie.proofs.HeaderLaws.{header-min, header-max}
 use Rattle.sound.specs.Tree.{Tree, listed}
@@ -26,8 +26,7 @@ use Rattle.audit.specs.Check.{used_of, Judged, sound, unsound, blank, survey_ste
 use Rattle.probes.specs.Limits.{UsedIn}
 use Rattle.tour.specs.View.{toured}
 use Rattle.audit.specs.View.{judged_answer, count_steps}
-use Rattle.audit.specs.declared.checking.Listed.{Listed}
-use Rattle.audit.proofs.SurveyLaws.{survey-header, survey-scratch, survey-damaged, survey-sound}
+use Rattle.audit.proofs.SurveyLaws.{survey-damaged, survey-sound}
 
 pub blank-zero : (scratch marks : List ℕ) → marks ≡ blank scratch → Blank marks
 blank-zero scratch marks e i = ap (λ (m : List ℕ). get_or m i 0) e ∙ by (dec_lt i (length scratch))
@@ -94,13 +93,7 @@ tree-judged area tree S n e (sound t T) = ap accepted (e t T)
 tree-judged area tree S n e (unsound none) = absurd (none tree S)
 
 module _ (area scratch : List ℕ) where
-  pub count-header : header_ok area ≡ false → (judged : Judged area) → lists (refuse Refusal.BadHeader) scratch [] ≡ count_steps area scratch judged
-  count-header h judged = sym (survey-header area scratch _ _ h judged)
-
   module _ (header : header_ok area ≡ true) where
-    pub count-short : length scratch < length area / word_size → (judged : Judged area) → lists (refuse Refusal.ShortBuffer) scratch [] ≡ count_steps area scratch judged
-    count-short h judged = sym (survey-scratch area scratch _ _ header h judged)
-
     pub count-judged : length area / word_size ≤ length scratch → (answer : Answer ℕ) → (after : List ℕ) → after ≡ blank scratch → ((judged : Judged area) → answer ≡ judged_answer judged)
         → (judged : Judged area) → lists answer after [] ≡ count_steps area scratch judged
     count-judged room answer after e f (sound tree S) = rw (e, f (sound tree S)) (sym (survey-sound area scratch _ _ header room tree S (sound tree S)))
@@ -122,12 +115,12 @@ told-count area scratch (unsound none) =
     (λ h. bool_cases (leb (length area / word_size) (length scratch)) (λ k. rw (h, k) refl) (λ k. rw (h, k) refl))
     (λ h. rw h refl)
 
-module _ (area scratch after : List ℕ) (r : Listed) (counts : (judged : Judged area) → lists (listed_answer r) after [] ≡ count_steps area scratch judged) where
-  pub check-entries : (n : ℕ) → r ≡ Listed.Entries n → (judged : Judged area) → leaves (verdict_number Verdict.Accepted) after ≡ check_steps area scratch judged
-  check-entries n e judged = ap (λ (x : Listed). told (lists (listed_answer x) after [])) (sym e) ∙ ap told (counts judged) ∙ told-count area scratch judged
+module _ (area scratch after : List ℕ) (r : Result ℕ Refusal) (counts : (judged : Judged area) → lists (listed_answer r) after [] ≡ count_steps area scratch judged) where
+  pub check-entries : (n : ℕ) → r ≡ Ok n → (judged : Judged area) → leaves (verdict_number pass) after ≡ check_steps area scratch judged
+  check-entries n e judged = ap (λ (x : Result ℕ Refusal). told (lists (listed_answer x) after [])) (sym e) ∙ ap told (counts judged) ∙ told-count area scratch judged
 
-  pub check-refused : (why : Refusal) → r ≡ Listed.Refused why → (judged : Judged area) → leaves (verdict_number (Verdict.Refused why)) after ≡ check_steps area scratch judged
-  check-refused why e judged = ap (λ (x : Listed). told (lists (listed_answer x) after [])) (sym e) ∙ ap told (counts judged) ∙ told-count area scratch judged
+  pub check-refused : (why : Refusal) → r ≡ Err why → (judged : Judged area) → leaves (verdict_number (fail why)) after ≡ check_steps area scratch judged
+  check-refused why e judged = ap (λ (x : Result ℕ Refusal). told (lists (listed_answer x) after [])) (sym e) ∙ ap told (counts judged) ∙ told-count area scratch judged
 
 -- ---- listing, from the count
 abbrev relist : {area : List ℕ} → List ℕ → Judged area → Listing → Listing
@@ -175,17 +168,13 @@ module _ (area scratch after : List ℕ) (n : ℕ) where
       (λ k. let q : lists (accepted n) after [] ≡ lists (refuse Refusal.ShortBuffer) scratch [] = rw (h, k) at e in clash cc))
       (λ h. let q : lists (accepted n) after [] ≡ lists (refuse Refusal.BadHeader) scratch [] = rw h at e in clash cc)
 
-module _ (area scratch after : List ℕ) (r : Listed) (counts : (judged : Judged area) → lists (listed_answer r) after [] ≡ count_steps area scratch judged) (list : List ℕ) where
-  again : (x : Listed) → r ≡ x → (judged : Judged area) → relist list judged (lists (listed_answer x) after []) ≡ list_steps area scratch list judged
-  again x e judged = ap (λ (v : Listed). relist list judged (lists (listed_answer v) after [])) (sym e) ∙ ap (relist list judged) (counts judged) ∙ relist-count area scratch list judged
+module _ (area scratch after : List ℕ) (r : Result ℕ Refusal) (counts : (judged : Judged area) → lists (listed_answer r) after [] ≡ count_steps area scratch judged) (list : List ℕ) where
+  again : (x : Result ℕ Refusal) → r ≡ x → (judged : Judged area) → relist list judged (lists (listed_answer x) after []) ≡ list_steps area scratch list judged
+  again x e judged = ap (λ (v : Result ℕ Refusal). relist list judged (lists (listed_answer v) after [])) (sym e) ∙ ap (relist list judged) (counts judged) ∙ relist-count area scratch list judged
 
-  pub list-refused : (why : Refusal) → r ≡ Listed.Refused why → (judged : Judged area) → lists (refuse why) after list ≡ list_steps area scratch list judged
-  list-refused why e (sound tree S) = again (Listed.Refused why) e (sound tree S)
-  list-refused why e (unsound none) = again (Listed.Refused why) e (unsound none)
-
-  module _ (n : ℕ) (e : r ≡ Listed.Entries n) where
+  module _ (n : ℕ) (e : r ≡ Ok n) where
     tells : (judged : Judged area) → lists (accepted n) after [] ≡ count_steps area scratch judged
-    tells judged = ap (λ (v : Listed). lists (listed_answer v) after []) (sym e) ∙ counts judged
+    tells judged = ap (λ (v : Result ℕ Refusal). lists (listed_answer v) after []) (sym e) ∙ counts judged
 
     -- so header and scratch are as the survey needs them
     pub list-room : (header_ok area ≡ true) × (length area / word_size ≤ length after)
@@ -198,18 +187,12 @@ module _ (area scratch after : List ℕ) (r : Listed) (counts : (judged : Judged
             (C.header, omega (arith, C.room, size))
         by (unsound none) = absurd (none-counted area scratch after n none (tells (unsound none)))
 
-    pub list-unlisted : length list < n → (judged : Judged area) → lists (refuse Refusal.ShortBuffer) after list ≡ list_steps area scratch list judged
-    list-unlisted h (sound tree S) =
-        let C = tree-counted area scratch after n tree S (tells (sound tree S)) in
-        sym (rw (lt-leb (length (listed tree)) (length list) (omega (arith, h, C.many))) refl) ∙ again (Listed.Entries n) e (sound tree S)
-    list-unlisted h (unsound none) = absurd (none-counted area scratch after n none (tells (unsound none)))
-
-    pub list-listed : n ≤ length list → (s : Listed) (last noted : List ℕ) → last ≡ blank after → ((judged : Judged area) → listed_answer s ≡ judged_answer judged)
+    pub list-listed : n ≤ length list → (s : Result ℕ Refusal) (last noted : List ℕ) → last ≡ blank after → ((judged : Judged area) → listed_answer s ≡ judged_answer judged)
         → ((tree : Tree) → Sound area (used_of area) tree → noted ≡ put list 0 (listed tree)) → (judged : Judged area) → lists (listed_answer s) last noted ≡ list_steps area scratch list judged
     list-listed h s last noted clear answers notes (sound tree S) =
         let C = tree-counted area scratch after n tree S (tells (sound tree S)) in
         let size : length after ≡ length scratch = ap length C.clear ∙ length-replicate (length scratch) 0 in
         let kept : last ≡ after = clear ∙ blank-again scratch after size ∙ sym C.clear in
         rw (answers (sound tree S), kept, notes tree S) (sym (rw (le-leb (length (listed tree)) (length list) (omega (arith, h, C.many))) refl))
-        ∙ again (Listed.Entries n) e (sound tree S)
+        ∙ again (Ok n) e (sound tree S)
     list-listed h s last noted clear answers notes (unsound none) = absurd (none-counted area scratch after n none (tells (unsound none)))

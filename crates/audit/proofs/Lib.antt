@@ -1,5 +1,5 @@
-pub mod RootLaws
 pub mod SurveyLaws
 pub mod CheckLaws
 pub mod Telling
 pub mod Promises
+pub mod Named

@@ -1,5 +1,6 @@
 -- What check and listing promise: every area is judged, one way; what each test refuses, and their order; check accepts exactly the sound ones; no second outcome.
 -- Each is a law of SurveyLaws.antt, CheckLaws.antt or Telling.antt, where `ListTells` stands, too. Assumes nothing.
+use Rattle.std.specs.Prelude.{Result, Ok}
 use Prim.Native.Nat.{ℕ, ◌-◌, ◌*◌, ◌≤◌, ◌<◌}
 use mathlib.Core.Path.{◌≡◌}
 use mathlib.Core.Bool.{true, false}
@@ -7,15 +8,13 @@ use mathlib.Core.List.{List}
 use lib.ListN.{length}
 use Rattle.words.specs.Words.{put}
 use Rattle.layout.specs.declared.refusal.Refusal.{Refusal}
-use Rattle.layout.specs.declared.refusal.Verdict.{Verdict}
 use Rattle.layout.specs.Layout.{area_max, first_free}
-use Rattle.layout.specs.Refusals.{accepted, refuse, accept_leaving, refuse_leaving}
+use Rattle.layout.specs.Refusals.{Verdict, pass, accepted, refuse, accept_leaving, refuse_leaving}
 use Rattle.layout.proofs.Promises.{one-outcome}
 use Rattle.trie.specs.Header.{header_ok}
 use Rattle.sound.specs.Tree.{Tree, listed}
 use Rattle.sound.specs.Sound.{Sound}
 use Rattle.audit.specs.Check.{used_of, Judged, blank, scratch_min, check_steps, CheckSays, lists, list_steps, ListSays}
-use Rattle.audit.specs.declared.checking.Listed.{Listed}
 use Rattle.audit.proofs.SurveyLaws.{survey-header, survey-scratch, survey-damaged, survey-sound, survey-short, survey-lists}
 use Rattle.audit.proofs.CheckLaws.{judge}
 use Rattle.audit.proofs.Telling.{one-listing, entries-few, ListTells, listing-tells, listing-few, accepted-sound}
@@ -68,11 +67,11 @@ module _ (area scratch : List ℕ) where
 pub one-check : (area scratch : List ℕ) (v w : Verdict) (a b : List ℕ) → CheckSays area scratch v a → CheckSays area scratch w b → (v ≡ w) × (a ≡ b)
 one-check area scratch v w a b p q = one-outcome (check_steps area scratch (judge area)) v w a b (p (judge area)) (q (judge area))
 
-pub one_list : (area scratch list : List ℕ) (r s : Listed) (a b c d : List ℕ) → ListSays area scratch list r a c → ListSays area scratch list s b d → (r ≡ s) × (a ≡ b) × (c ≡ d)
+pub one_list : (area scratch list : List ℕ) (r s : Result ℕ Refusal) (a b c d : List ℕ) → ListSays area scratch list r a c → ListSays area scratch list s b d → (r ≡ s) × (a ≡ b) × (c ≡ d)
 one_list = one-listing
 
 -- ---- what an accepted check says: the area is sound
-pub check-tells : (area scratch after : List ℕ) → CheckSays area scratch Verdict.Accepted after → (tree : Tree) × Sound area (used_of area) tree
+pub check-tells : (area scratch after : List ℕ) → CheckSays area scratch pass after → (tree : Tree) × Sound area (used_of area) tree
 check-tells = accepted-sound
 
 -- ---- what a listing that is not refused says: the area is sound, and these are its tree's entries
@@ -85,5 +84,5 @@ pub listed-few : (area : List ℕ) (used : ℕ) (tree : Tree) → Sound area use
 listed-few = entries-few
 
 -- ---- so the answer of listing fits 32 bits
-pub answer-few : (area scratch list : List ℕ) (r : Listed) (a c : List ℕ) → ListSays area scratch list r a c → (n : ℕ) → r ≡ Listed.Entries n → n ≤ area_max
+pub answer-few : (area scratch list : List ℕ) (r : Result ℕ Refusal) (a c : List ℕ) → ListSays area scratch list r a c → (n : ℕ) → r ≡ Ok n → n ≤ area_max
 answer-few = listing-few

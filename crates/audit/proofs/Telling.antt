@@ -1,5 +1,6 @@
 -- What check and listing tell of an area, by the cases of its judgement and of the tests before it.
 -- Assumes nothing.
+use Rattle.std.specs.Prelude.{Result, Ok, Err}
 use Prim.Native.Nat.{ℕ, ◌+◌, ◌-◌, ◌*◌, ◌≤◌}
 use native.Mathlib.Omega.{arith}
 use mathlib.Core.Path.{◌≡◌, sym, ap, ◌∙◌}
@@ -10,9 +11,8 @@ use borrow.Author.Tests.{leb-true}
 use Rattle.words.proofs.Laws.{bool_cases, clash}
 use Rattle.words.specs.Words.{put}
 use Rattle.layout.specs.declared.refusal.Refusal.{Refusal}
-use Rattle.layout.specs.declared.refusal.Verdict.{Verdict}
 use Rattle.layout.specs.Layout.{area_max, first_free}
-use Rattle.layout.specs.Refusals.{accepted, refused, accept_leaving}
+use Rattle.layout.specs.Refusals.{pass, accepted, refused, accept_leaving}
 use Rattle.layout.proofs.Numbers.{outcome-clash}
 use Rattle.layout.proofs.Promises.{one-refusal}
 use Rattle.trie.specs.Header.{header_ok}
@@ -21,17 +21,16 @@ use Rattle.sound.specs.Tree.{Entry, bare, entry, Tree, leaf, node, listed_own, l
 use Rattle.sound.specs.Sound.{Sound}
 use Rattle.sound.proofs.Counting.{entry_taken, taken, taken-few}
 use Rattle.audit.specs.Check.{used_of, Judged, sound, unsound, blank, scratch_min, survey_steps, check_steps, CheckSays, lists, listed_answer, list_steps, ListSays}
-use Rattle.audit.specs.declared.checking.Listed.{Listed}
 use Rattle.audit.proofs.CheckLaws.{judge}
 
 -- ---- two listings of the same say the same
-one-listed : (r s : Listed) → listed_answer r ≡ listed_answer s → r ≡ s
-one-listed (Listed.Entries n) (Listed.Entries k) e = cc
-one-listed (Listed.Entries n) (Listed.Refused why) e = clash cc
-one-listed (Listed.Refused why) (Listed.Entries k) e = clash cc
-one-listed (Listed.Refused why) (Listed.Refused reason) e = ap Listed.Refused (one-refusal why reason (cc))
+one-listed : (r s : Result ℕ Refusal) → listed_answer r ≡ listed_answer s → r ≡ s
+one-listed (Ok n) (Ok k) e = cc
+one-listed (Ok n) (Err why) e = clash cc
+one-listed (Err why) (Ok k) e = clash cc
+one-listed (Err why) (Err reason) e = ap Err (one-refusal why reason (cc))
 
-pub one-listing : (area scratch list : List ℕ) (r s : Listed) (a b c d : List ℕ) → ListSays area scratch list r a c → ListSays area scratch list s b d → (r ≡ s) × (a ≡ b) × (c ≡ d)
+pub one-listing : (area scratch list : List ℕ) (r s : Result ℕ Refusal) (a b c d : List ℕ) → ListSays area scratch list r a c → ListSays area scratch list s b d → (r ≡ s) × (a ≡ b) × (c ≡ d)
 one-listing area scratch list r s a b c d p q =
     let e : lists (listed_answer r) a c ≡ lists (listed_answer s) b d = p (judge area) ∙ sym (q (judge area)) in
     (one-listed r s (cc), (cc), (cc))
@@ -94,13 +93,13 @@ listing-tells area scratch list n a c judged q = by judged q
         (λ h. bool_cases (leb (scratch_min area) (length scratch)) (λ k. refuses _ _ _ (rw (h, k) at q)) (λ k. refuses _ _ _ (rw (h, k) at q)))
         (λ h. refuses _ _ _ (rw h at q))
 
-pub listing-few : (area scratch list : List ℕ) (r : Listed) (a c : List ℕ) → ListSays area scratch list r a c → (n : ℕ) → r ≡ Listed.Entries n → n ≤ area_max
+pub listing-few : (area scratch list : List ℕ) (r : Result ℕ Refusal) (a c : List ℕ) → ListSays area scratch list r a c → (n : ℕ) → r ≡ Ok n → n ≤ area_max
 listing-few area scratch list r a c says n e =
-    let t = listing-tells area scratch list n a c (judge area) (ap (λ (x : Listed). lists (listed_answer x) a c) (sym e) ∙ says (judge area)) in
+    let t = listing-tells area scratch list n a c (judge area) (ap (λ (x : Result ℕ Refusal). lists (listed_answer x) a c) (sym e) ∙ says (judge area)) in
     omega (arith, t.count, entries-few area (used_of area) t.tree t.sound, t.sound.front.high, header-max area t.sound.front.header)
 
 -- ---- what an accepted check says
-pub accepted-sound : (area scratch after : List ℕ) → CheckSays area scratch Verdict.Accepted after → (tree : Tree) × Sound area (used_of area) tree
+pub accepted-sound : (area scratch after : List ℕ) → CheckSays area scratch pass after → (tree : Tree) × Sound area (used_of area) tree
 unfolding survey_steps
 accepted-sound area scratch after says = by (judge area) (says (judge area))
   where

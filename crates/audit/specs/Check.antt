@@ -1,14 +1,12 @@
 -- Check and listing (RULES 7.1 to 7.5): the answer, and every byte of scratch and list afterwards.
-use Rattle.std.specs.Prelude.{ℕ, ◌/◌, ◌≡◌, List, length, replicate, leb}
+use Rattle.std.specs.Prelude.{ℕ, ◌/◌, ◌≡◌, List, length, replicate, leb, Result}
 use Rattle.words.specs.Words.{put}
 use Rattle.layout.specs.declared.refusal.Refusal.{Refusal}
-use Rattle.layout.specs.declared.refusal.Verdict.{Verdict}
 use Rattle.layout.specs.Layout.{word_size, used_field, header_word}
-use Rattle.layout.specs.Refusals.{Answer, accepted, refuse, guard, verdict_number, Outcome, leaves, accept_leaving, refuse_leaving}
+use Rattle.layout.specs.Refusals.{Answer, accepted, refuse, answered, guard, Verdict, verdict_number, Outcome, leaves, accept_leaving, refuse_leaving}
 use Rattle.trie.specs.Header.{header_ok}
 use Rattle.sound.specs.Tree.{Tree, listed}
 use Rattle.sound.specs.Sound.{Sound}
-use Rattle.audit.specs.declared.checking.Listed.{Listed}
 
 abbrev pub used_of : List ℕ → ℕ
 used_of area = header_word area used_field
@@ -50,9 +48,8 @@ pub data Listing : Type 0 where
   lists : (answer : Answer ℕ) (scratch list : List ℕ) → Listing
 
 -- what each case of the answer means
-abbrev pub listed_answer : Listed → Answer ℕ
-listed_answer (Listed.Entries count) = accepted count
-listed_answer (Listed.Refused why) = refuse why
+abbrev pub listed_answer : Result ℕ Refusal → Answer ℕ
+listed_answer = answered (λ (count : ℕ). count)
 
 -- then the list (10, list kept); the offsets are written, list places beyond them stay
 abbrev pub list_offsets : List ℕ → List ℕ → List ℕ → Listing
@@ -64,5 +61,5 @@ abbrev pub list_steps : (area scratch list : List ℕ) → Judged area → Listi
 list_steps area scratch list judged = survey_steps area scratch (λ why left. lists (refuse why) left list) (list_offsets list) judged
 
 -- what listing answers and leaves, however the area is judged
-abbrev pub ListSays : (area scratch list : List ℕ) → Listed → List ℕ → List ℕ → Type 0
+abbrev pub ListSays : (area scratch list : List ℕ) → Result ℕ Refusal → List ℕ → List ℕ → Type 0
 ListSays area scratch list answer after noted = (judged : Judged area) → lists (listed_answer answer) after noted ≡ list_steps area scratch list judged

@@ -5,4 +5,4 @@
 
 mod checking;
 
-pub use checking::{Listed, check, list};
+pub use checking::{check, list};

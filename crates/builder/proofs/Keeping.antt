@@ -9,9 +9,10 @@ use Rattle.words.specs.Stores.{Store, run, text_stores}
 use Rattle.words.proofs.Laws.{bool_cases, clash}
 use Rattle.names.specs.Names.{segments}
 use Rattle.layout.specs.declared.refusal.Refusal.{Refusal}
-use Rattle.layout.specs.declared.refusal.Verdict.{Verdict}
+use Rattle.std.specs.Prelude.{Result, Ok, Err}
+use Rattle.trie.proofs.Bounds.{Damage, visit_damage}
 use Rattle.layout.specs.Layout.{word_max, area_max, format_min, byte_of, used_field, node_takes, entry_takes, value_takes, slot_size, root_at, prop_field, children_field, data_size, header_word, word_at, node_ok, entry_ok}
-use Rattle.layout.specs.Refusals.{number_of, no_refusal, by_verdict, accept_leaving, refuse_leaving}
+use Rattle.layout.specs.Refusals.{Verdict, number_of, no_refusal, by_verdict, accept_leaving, refuse_leaving}
 use Rattle.layout.proofs.Numbers.{outcome-clash}
 use Rattle.property_info.specs.Written.{short_stores, long_stores}
 use Rattle.trie.specs.declared.trie.Visited.{Visited}
@@ -75,26 +76,25 @@ unfolding hang_node
 hang-late area link name = then-late (new_node area name) (λ at laid. link_to laid link at) (new-late area name) (λ at laid. tt)
 
 -- a search refuses as damage alone
-abbrev Damages : Searched → Type 0
-Damages (Searched.Named node n) = Unit {0}
-Damages (Searched.Absent link n) = Unit {0}
-Damages (Searched.Refused why) = why ≡ Refusal.Damaged
+abbrev Damages : Result Searched Refusal → Type 0
+Damages (Ok found) = Unit {0}
+Damages (Err why) = why ≡ Refusal.Damaged
 
-visit-damages : (v : Visited) (node n : ℕ) (on : ℕ → Searched) → ((m : ℕ) → Damages (on m)) → Damages (by_visit v node n on)
-visit-damages Visited.Same node n on f = tt
-visit-damages (Visited.Next m) node n on f = f m
-visit-damages (Visited.Stop l) node n on f = tt
-visit-damages Visited.Damaged node n on f = refl
+visit-damages : (v : Result Visited Refusal) → Damage v → (node n : ℕ) (on : ℕ → Result Searched Refusal) → ((m : ℕ) → Damages (on m)) → Damages (by_visit v node n on)
+visit-damages (Ok Visited.Same) d node n on f = tt
+visit-damages (Ok (Visited.Next m)) d node n on f = f m
+visit-damages (Ok (Visited.Stop l)) d node n on f = tt
+visit-damages (Err why) d node n on f = d
 
 search-damages : (more : ℕ) (area segment : List ℕ) (node n : ℕ) → Damages (search_from area segment more node n)
 unfolding search_from
 search-damages zero area segment node n = refl
-search-damages (suc more) area segment node n = visit-damages (visit_node area segment node) node (n + 1) _ (λ m. search-damages more area segment m (n + 1))
+search-damages (suc more) area segment node n = visit-damages (visit_node area segment node) (visit_damage area segment node) node (n + 1) _ (λ m. search-damages more area segment m (n + 1))
 
-or-hang-late : (area segment : List ℕ) (s : Searched) → Damages s → StopsLate (or_hang area segment s)
-or-hang-late area segment (Searched.Named node n) d = tt
-or-hang-late area segment (Searched.Absent link n) d = hang-late area link segment
-or-hang-late area segment (Searched.Refused why) d = rw d refl
+or-hang-late : (area segment : List ℕ) (s : Result Searched Refusal) → Damages s → StopsLate (or_hang area segment s)
+or-hang-late area segment (Ok (Searched.Named node n)) d = tt
+or-hang-late area segment (Ok (Searched.Absent link n)) d = hang-late area link segment
+or-hang-late area segment (Err why) d = rw d refl
 
 node-late : (area segment : List ℕ) (first : ℕ) → StopsLate (add_node area segment first)
 unfolding add_node
@@ -146,16 +146,17 @@ add-entry-late area name value node =
 
 -- ---- what holds of every refusal that leaves the area as it is, and of every step that stops late alone, holds of add
 verdict-every : (area : List ℕ) (P : Step → Type 0) → ((why : Refusal) → P (stop_by area why)) → (v : Verdict) (on : Step) → P on → P (by_verdict v (stop_by area) on)
-verdict-every area P refuses Verdict.Accepted on k = k
-verdict-every area P refuses (Verdict.Refused why) on k = refuses why
+verdict-every area P refuses (Ok _) on k = k
+verdict-every area P refuses (Err why) on k = refuses why
 
 add-every : (area name value : List ℕ) (P : Step → Type 0) → ((why : Refusal) → P (stop_by area why)) → ((s : Step) → StopsLate s → P s) → P (add_steps area name value)
 unfolding add_steps
 add-every area name value P refuses lates =
+    let walk = and_then (add_path area (segments name) root_at) (λ node after. add_entry after name value node) in
+    let k : StopsLate walk = then-late (add_path area (segments name) root_at) _ (path-late (segments name) area root_at) (λ node after. add-entry-late after name value node) in
     bool_cases (header_ok area)
-    (λ h. rw h (verdict-every area P refuses (name_verdict name) _ (lates _
-    (then-late (add_path area (segments name) root_at) (λ node after. add_entry after name value node) (path-late (segments name) area root_at) (λ node after. add-entry-late after name value node)))))
-    (λ h. rw h (refuses Refusal.BadHeader))
+    (λ h. rw h (search (verdict-every area P refuses (name_verdict name) walk (lates walk k))))
+    (λ h. rw h (search (refuses Refusal.BadHeader)))
 
 -- ---- so a refusal that is not late leaves every byte, and gives no room
 abbrev pub EarlyKeeps : List ℕ → Step → Type 0

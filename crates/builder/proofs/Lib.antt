@@ -1,4 +1,4 @@
-pub mod AddLaws
 pub mod Keeping
 pub mod Used
 pub mod Promises
+pub mod Named

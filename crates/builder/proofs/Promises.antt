@@ -3,8 +3,7 @@ use mathlib.Core.Path.{◌≡◌}
 use mathlib.Core.List.{List}
 use Prim.Native.Nat.{ℕ}
 use lib.ListN.{length}
-use Rattle.layout.specs.declared.refusal.Verdict.{Verdict}
-use Rattle.layout.specs.Refusals.{verdict_number, leaves, accept_leaving}
+use Rattle.layout.specs.Refusals.{Verdict, verdict_number, leaves, accept_leaving}
 use Rattle.layout.proofs.Promises.{one-outcome}
 use Rattle.allocation.specs.Steps.{goes, outcome}
 use Rattle.allocation.specs.Allocate.{allocate}

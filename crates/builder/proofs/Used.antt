@@ -12,10 +12,11 @@ use Rattle.words.proofs.Laws.{bool_cases, little-agree, put-length}
 use Rattle.words.proofs.StoreLaws.{run_length, Behind, none, one, behind-append, behind-bytes, run-before}
 use Rattle.words.proofs.Promises.{little-put-same}
 use Rattle.names.specs.Names.{segments}
-use Rattle.layout.specs.declared.refusal.Verdict.{Verdict}
+use Rattle.std.specs.Prelude.{Result, Ok, Err}
+use Rattle.layout.specs.declared.refusal.Refusal.{Refusal}
 use Rattle.layout.specs.Layout.{word_size, word_max, header_size, byte_of, used_field, node_size, node_takes, namelen_field, prop_field, left_field, right_field, children_field}
 use Rattle.layout.specs.Layout.{entry_takes, value_takes, entry_size, serial_field, slot_field, slot_size, message_field, long_offset_field, root_at, data_size, place_of, header_word, word_at, node_ok, entry_ok}
-use Rattle.layout.specs.Refusals.{by_verdict}
+use Rattle.layout.specs.Refusals.{Verdict, by_verdict}
 use Rattle.property_info.specs.Written.{short_stores, long_stores}
 use Rattle.trie.specs.declared.trie.Searched.{Searched}
 use Rattle.trie.specs.Header.{header_ok}
@@ -110,10 +111,10 @@ hang-moved : (area : List ℕ) (link : ℕ) (name : List ℕ) → word_size ≤ 
 unfolding hang_node
 hang-moved area link name h = then-moved area (new_node area name) (λ at laid. link_to laid link at) (new-moved area name h) (λ at laid k. link-moved laid link at)
 
-or-hang-moved : (area segment : List ℕ) (s : Searched) → word_size ≤ length area → Moved area (or_hang area segment s)
-or-hang-moved area segment (Searched.Named node n) h = still area
-or-hang-moved area segment (Searched.Absent link n) h = hang-moved area link segment h
-or-hang-moved area segment (Searched.Refused why) h = still area
+or-hang-moved : (area segment : List ℕ) (s : Result Searched Refusal) → word_size ≤ length area → Moved area (or_hang area segment s)
+or-hang-moved area segment (Ok (Searched.Named node n)) h = still area
+or-hang-moved area segment (Ok (Searched.Absent link n)) h = hang-moved area link segment h
+or-hang-moved area segment (Err why) h = still area
 
 node-moved : (area segment : List ℕ) (first : ℕ) → word_size ≤ length area → Moved area (add_node area segment first)
 unfolding add_node
@@ -174,8 +175,8 @@ add-entry-moved area name value node h =
     (λ t. rw t (still area))
 
 verdict-moved : (area : List ℕ) (v : Verdict) (on : Step) → Moved area on → Moved area (by_verdict v (stop_by area) on)
-verdict-moved area Verdict.Accepted on p = p
-verdict-moved area (Verdict.Refused why) on p = still area
+verdict-moved area (Ok _) on p = p
+verdict-moved area (Err why) on p = still area
 
 -- ---- the promise
 pub used-moves : (area name value : List ℕ) → Moved area (add_steps area name value)

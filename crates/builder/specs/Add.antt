@@ -3,9 +3,8 @@ use Rattle.std.specs.Prelude.{ℕ, Bool, false, cond, ◌||◌, List, [], ◌∷
 use Rattle.words.specs.Words.{has_zero}
 use Rattle.names.specs.Names.{segments}
 use Rattle.layout.specs.declared.refusal.Refusal.{Refusal}
-use Rattle.layout.specs.declared.refusal.Verdict.{Verdict}
 use Rattle.layout.specs.Layout.{root_at}
-use Rattle.layout.specs.Refusals.{guard, by_verdict}
+use Rattle.layout.specs.Refusals.{guard, Verdict, pass, fail, by_verdict}
 use Rattle.trie.specs.Header.{header_ok}
 use Rattle.allocation.specs.Steps.{Step, stop_by, and_then}
 use Rattle.nodes.specs.Nodes.{add_path}
@@ -19,9 +18,9 @@ any_empty (segment ∷ rest) = eqb (length segment) 0 || any_empty rest
 -- RULES 5.2: zero bytes first (1), empty segments next (2)
 unfoldable pub name_verdict : List ℕ → Verdict
 name_verdict name =
-    cond (has_zero name) (Verdict.Refused Refusal.ZeroByte)
-    (cond (any_empty (segments name)) (Verdict.Refused Refusal.EmptySegment)
-    Verdict.Accepted)
+    cond (has_zero name) (fail Refusal.ZeroByte)
+    (cond (any_empty (segments name)) (fail Refusal.EmptySegment)
+    pass)
 
 -- 8; the name's tests; the walk; the entry
 unfoldable pub add_steps : List ℕ → List ℕ → List ℕ → Step

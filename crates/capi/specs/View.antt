@@ -1,8 +1,13 @@
--- What a function that is not exported asks. Its contract cites this; no promise does.
-use Rattle.std.specs.Prelude.{ℕ, ◌≤◌, ◌≡◌}
+-- What functions that are not exported ask. Their contracts cite these; no promise does.
+use Rattle.std.specs.Prelude.{ℕ, ◌≤◌, Result, IfOk}
+use Rattle.layout.specs.declared.refusal.Refusal.{Refusal}
+use Rattle.layout.specs.declared.text.Span.{Span}
 use Rattle.layout.specs.Layout.{word_max}
-use Rattle.property_area.specs.declared.values.AreaPart.{AreaPart}
 
 -- a part ends no earlier than it begins, at a place of 32 bits
-abbrev pub PartFits : AreaPart → Type 0
-PartFits place = (from to : ℕ) → place ≡ AreaPart.Bytes from to → (from ≤ to) × (from ≤ word_max)
+abbrev pub PartFits : Result Span Refusal → Type 0
+PartFits place = IfOk place (λ (span : Span). (span.from ≤ span.to) × (span.from ≤ word_max))
+
+-- a count of 32 bits
+abbrev pub CountFits : Result ℕ Refusal → Type 0
+CountFits counted = IfOk counted (λ (count : ℕ). count ≤ word_max)

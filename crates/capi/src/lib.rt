@@ -1,8 +1,8 @@
 // The C functions, and C's structs. The crate capi_c exports them; bindings/c/property_area.h declares them.
 #![tactic(auto)]
 
-ghost use Rattle.std.specs.Prelude.{◌≡◌};
-ghost use Rattle.layout.specs.Refusals.{leaves};
+ghost use Rattle.std.specs.Prelude.{ℕ, ◌≡◌};
+ghost use Rattle.layout.specs.Refusals.{answered, leaves};
 ghost use Rattle.property_area.specs.Find.{find_steps};
 ghost use Rattle.property_area.specs.Value.{part_answer, value_steps, name_steps, serial_steps};
 ghost use Rattle.property_area.specs.Backup.{backup_steps};
@@ -11,12 +11,13 @@ ghost use Rattle.builder.specs.Fresh.{format_steps};
 ghost use Rattle.builder.specs.Add.{add_steps};
 ghost use Rattle.updates.specs.Update.{update_steps, raw_steps};
 ghost use Rattle.counters.specs.Distance.{distance};
-ghost use Rattle.capi.specs.Capi.{found_struct, part_struct, serial_struct, CheckReturns, ListReturns, DumpReturns};
-ghost use Rattle.capi.specs.View.{PartFits};
+ghost use Rattle.capi.specs.Capi.{found_struct, part_struct, serial_struct, count_struct, CheckReturns, ListReturns, DumpReturns};
+ghost use Rattle.capi.specs.View.{PartFits, CountFits};
 
-use audit::Listed;
-use dumping::Text;
-use property_area::{AreaPart, EntrySerial, Found};
+use layout::{Refusal, Span, verdict_number};
+use property_area::Found;
+
+// C has no result type, so each struct has the refusal's number beside the value.
 
 // Refusal 0: found. Where refused the rest is 0.
 #[repr(C)]
@@ -55,19 +56,19 @@ pub struct PaCount {
 pub fn pa_format(area: &mut [u8]) -> u32
     ensures { leaves result area.new ≡ format_steps area.old }
 {
-    builder::format(area).number()
+    verdict_number(builder::format(area))
 }
 
 pub fn pa_find(area: &[u8], name: &[u8]) -> PaFound
     ensures { result ≡ found_struct (find_steps area.now name.now) }
 {
     match property_area::find(area, name) {
-        Found::Entry { offset, compared } => PaFound {
+        Ok(Found { offset, compared }) => PaFound {
             refusal: 0,
             entry: offset,
             compared: compared as u64,
         },
-        Found::Refused(why) => PaFound {
+        Err(why) => PaFound {
             refusal: why.number(),
             entry: 0,
             compared: 0,
@@ -75,18 +76,18 @@ pub fn pa_find(area: &[u8], name: &[u8]) -> PaFound
     }
 }
 
-// The struct of a part.
-fn part_of(place: AreaPart) -> PaPart
+// The struct of a part. A `From` could not ask that the part fits.
+fn part_of(place: Result<Span, Refusal>) -> PaPart
     requires { PartFits place }
     ensures { result ≡ part_struct (part_answer place) }
 {
     match place {
-        AreaPart::Bytes { from, to } => PaPart {
+        Ok(Span { from, to }) => PaPart {
             refusal: 0,
             start: from as u32,
             length: (to - from) as u64,
         },
-        AreaPart::Refused(why) => PaPart {
+        Err(why) => PaPart {
             refusal: why.number(),
             start: 0,
             length: 0,
@@ -110,11 +111,8 @@ pub fn pa_serial(area: &[u8], entry: u32) -> PaSerial
     ensures { result ≡ serial_struct (serial_steps area.now entry) }
 {
     match property_area::serial(area, entry) {
-        EntrySerial::Word(word) => PaSerial {
-            refusal: 0,
-            serial: word,
-        },
-        EntrySerial::Refused(why) => PaSerial {
+        Ok(serial) => PaSerial { refusal: 0, serial },
+        Err(why) => PaSerial {
             refusal: why.number(),
             serial: 0,
         },
@@ -124,61 +122,60 @@ pub fn pa_serial(area: &[u8], entry: u32) -> PaSerial
 pub fn pa_add(area: &mut [u8], name: &[u8], value: &[u8]) -> u32
     ensures { leaves result area.new ≡ outcome (add_steps area.old name.now value.now) }
 {
-    builder::add(area, name, value).number()
+    verdict_number(builder::add(area, name, value))
 }
 
 pub fn pa_update(area: &mut [u8], name: &[u8], value: &[u8]) -> u32
     ensures { leaves result area.new ≡ update_steps area.old name.now value.now }
 {
-    updates::update(area, name, value).number()
+    verdict_number(updates::update(area, name, value))
 }
 
 pub fn pa_raw_update(area: &mut [u8], entry: u32, backup: &[u8], value: &[u8]) -> u32
     ensures { leaves result area.new ≡ raw_steps area.old entry backup.now value.now }
 {
-    updates::backup_and_apply_write(area, entry, backup, value).number()
+    verdict_number(updates::backup_and_apply_write(area, entry, backup, value))
 }
 
 pub fn pa_backup_read(area: &[u8], buffer: &mut [u8]) -> u32
     ensures { leaves result buffer.new ≡ backup_steps area.now buffer.old }
 {
-    property_area::read_dirty_backup(area, buffer).number()
+    verdict_number(property_area::read_dirty_backup(area, buffer))
 }
 
 pub fn pa_check(area: &[u8], scratch: &mut [u8]) -> u32
     ensures { CheckReturns area.now scratch.old result scratch.new }
 {
-    audit::check(area, scratch).number()
+    verdict_number(audit::check(area, scratch))
+}
+
+// The struct of a count. No `From`, as above.
+fn count_of(counted: Result<usize, Refusal>) -> PaCount
+    requires { CountFits counted }
+    ensures { result ≡ count_struct (answered (λ (count : ℕ). count) counted) }
+{
+    match counted {
+        Ok(count) => PaCount {
+            refusal: 0,
+            count: count as u32,
+        },
+        Err(why) => PaCount {
+            refusal: why.number(),
+            count: 0,
+        },
+    }
 }
 
 pub fn pa_list(area: &[u8], scratch: &mut [u8], list: &mut [u32]) -> PaCount
     ensures { ListReturns area.now scratch.old list.old result scratch.new list.new }
 {
-    match audit::list(area, scratch, list) {
-        Listed::Entries(count) => PaCount {
-            refusal: 0,
-            count: count as u32,
-        },
-        Listed::Refused(why) => PaCount {
-            refusal: why.number(),
-            count: 0,
-        },
-    }
+    count_of(audit::list(area, scratch, list))
 }
 
 pub fn pa_dump(area: &[u8], scratch: &mut [u8], list: &mut [u32], room: &mut [u8]) -> PaCount
     ensures { DumpReturns area.now scratch.old list.old room.old result room.new scratch.new list.new }
 {
-    match dumping::dump_into(area, scratch, list, room) {
-        Text::Bytes(size) => PaCount {
-            refusal: 0,
-            count: size as u32,
-        },
-        Text::Refused(why) => PaCount {
-            refusal: why.number(),
-            count: 0,
-        },
-    }
+    count_of(dumping::dump_into(area, scratch, list, room))
 }
 
 pub fn pa_update_distance(earlier: u32, later: u32) -> u32

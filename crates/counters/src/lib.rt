@@ -10,5 +10,5 @@ use serials::{POSITIONS, position_of};
 pub fn update_distance(earlier: u32, later: u32) -> u32
     ensures { result ≡ distance earlier later }
 {
-    std::num::wrapping_sub_u32(position_of(later), position_of(earlier)) % POSITIONS
+    position_of(later).wrapping_sub(position_of(earlier)) % POSITIONS
 }

@@ -3,23 +3,21 @@
 // long value, an empty one, and bytes that are escaped.
 #![tactic(auto)]
 
-use streams::print;
-
-fn show(rt: &HostRuntime, file: &[u8]) {
-    print(rt, b"-- ");
-    print(rt, file);
-    print(rt, b"\n");
-    programs::dump_file(rt, file);
-}
+const FILES: [&str; 9] = [
+    "empty.area",
+    "short.area",
+    "large.area",
+    "largest.area",
+    "most.area",
+    "damaged.area",
+    "missing.area",
+    ".",
+    "values.area",
+];
 
 fn main(rt: HostRuntime) {
-    show(&rt, b"empty.area");
-    show(&rt, b"short.area");
-    show(&rt, b"large.area");
-    show(&rt, b"largest.area");
-    show(&rt, b"most.area");
-    show(&rt, b"damaged.area");
-    show(&rt, b"missing.area");
-    show(&rt, b".");
-    show(&rt, b"values.area");
+    for file in FILES {
+        let _ = println!(rt; "-- {file}");
+        programs::dump_file(&rt, file.as_bytes());
+    }
 }

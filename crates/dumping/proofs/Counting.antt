@@ -1,17 +1,14 @@
 -- Laws of the dump's length, for each way on and out of counting it: a text, an entry's line, the first line, the lines. What bounds each keeps the sums within 64 bits.
-use Prim.Native.Nat.{ℕ, suc, ◌+◌, ◌*◌, ◌≤◌, ◌<◌}
+use Prim.Native.Nat.{ℕ, ◌+◌, ◌*◌, ◌≤◌}
 use mathlib.Core.Path.{◌≡◌, refl}
-use mathlib.Core.List.{List}
-use native.Mathlib.Numerals.{add-one}
+use mathlib.Core.List.{List, [], ◌∷◌}
 use native.Mathlib.Omega.{arith}
-use lib.ListN.{length, get_or, drop, length-append, length-take, length-drop, drop_of_length-le}
-use lib.Seq.{drop-cons}
+use lib.ListN.{length, length-append, length-take, length-drop}
 use Rattle.layout.specs.Layout.{area_max}
 use Rattle.layout.specs.Refusals.{Answer, accepted, refused}
 use Rattle.property_area.specs.Value.{Part, bytes, value_steps, name_steps, part_or_none}
 use Rattle.audit.specs.Check.{used_of}
-use Rattle.texts.specs.Text.{escaped_byte, escaped, digits_max, saying, said}
-use Rattle.texts.proofs.Laws.{byte-few}
+use Rattle.texts.specs.Text.{escaped, digits_max, saying, said}
 use Rattle.texts.proofs.Promises.{escaped-few, decimal-few, said-stands}
 use Rattle.dumping.specs.Dump.{head_text, entry_line, entry_lines}
 use Rattle.dumping.specs.View.{listing_text}
@@ -23,18 +20,6 @@ head_max = 55
 abbrev pub line_max : ℕ
 line_max = 8 * area_max + 7
 
--- ---- a text: one byte more, none left
-module _ (text : List ℕ) (taken : ℕ) where
-  pub text-turn : taken < length text → (size : ℕ) → size ≡ length (escaped_byte (get_or text taken 0))
-      → (size ≤ 4) × (length (escaped (drop taken text)) ≡ size + length (escaped (drop (taken + 1) text)))
-  unfolding escaped
-  text-turn h size e =
-      rw (drop-cons text taken 0 h, add-one, e) (byte-few (get_or text taken 0), length-append (escaped_byte (get_or text taken 0)) (escaped (drop (suc taken) text)))
-
-  pub text-end : length text ≤ taken → length (escaped (drop taken text)) ≡ 0
-  unfolding escaped
-  text-end h = rw (drop_of_length-le text {i = taken} h)
-
 -- ---- an entry's line: name and value are parts of the area
 module _ (area : List ℕ) (few : length area ≤ area_max) where
   pub part-few : (answer : Answer Part) → length (part_or_none area answer) ≤ area_max
@@ -44,13 +29,16 @@ module _ (area : List ℕ) (few : length area ≤ area_max) where
   pub part-size : (answer : Answer Part) (size : ℕ) → size ≡ length (escaped (part_or_none area answer)) → size ≤ 4 * area_max
   part-size answer size e = omega (arith, escaped-few (part_or_none area answer), part-few answer)
 
+-- what keeps the sum within 64 bits
+pub ruleset parts = (part-few, escaped-few)
+
 module _ (area : List ℕ) (at : ℕ) where
   pub line-size : (named valued : ℕ) → named ≡ length (escaped (part_or_none area (name_steps area at))) → valued ≡ length (escaped (part_or_none area (value_steps area at)))
       → 7 + named + valued ≡ length (entry_line area at)
   unfolding entry_line
   line-size named valued n v = simp length-append (omega arith)
 
-  line-few : length area ≤ area_max → length (entry_line area at) ≤ line_max
+  pub line-few : length area ≤ area_max → length (entry_line area at) ≤ line_max
   line-few few =
       let n = part-size area few (name_steps area at) _ refl in
       let v = part-size area few (value_steps area at) _ refl in
@@ -71,17 +59,8 @@ head-size count used out next after l e =
 pub listing-length : (area offsets : List ℕ) → length (listing_text area offsets) ≡ length (head_text (length offsets) (used_of area)) + length (entry_lines area offsets)
 listing-length area offsets = length-append (head_text (length offsets) (used_of area)) (entry_lines area offsets)
 
--- ---- the lines: one more, none left
-module _ (area offsets : List ℕ) (taken : ℕ) where
-  pub sizes-turn : length area ≤ area_max → taken < length offsets → (size : ℕ) → size ≡ length (entry_line area (get_or offsets taken 0))
-      → (size ≤ line_max) × (length (entry_lines area (drop taken offsets)) ≡ size + length (entry_lines area (drop (taken + 1) offsets)))
-  unfolding entry_lines
-  sizes-turn few h size e =
-      rw (drop-cons offsets taken 0 h, add-one, e) (
-        line-few area (get_or offsets taken 0) few,
-        length-append (entry_line area (get_or offsets taken 0)) (entry_lines area (drop (suc taken) offsets)),
-      )
-
-  pub sizes-end : length offsets ≤ taken → length (entry_lines area (drop taken offsets)) ≡ 0
-  unfolding entry_lines
-  sizes-end h = rw (drop_of_length-le offsets {i = taken} h)
+-- ---- the lines: none is longer than line_max
+pub lines-few : (area : List ℕ) → length area ≤ area_max → (offsets : List ℕ) → length (entry_lines area offsets) ≤ line_max * length offsets
+unfolding entry_lines
+lines-few area few [] = omega arith
+lines-few area few (at ∷ rest) = omega (arith, length-append (entry_line area at) (entry_lines area rest), line-few area at few, lines-few area few rest)

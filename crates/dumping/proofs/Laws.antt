@@ -1,41 +1,43 @@
--- Laws of specs/Dump.antt, one for each way out of the code: the dump's lines, listing, the dump, the dump in the caller's room.
-use Prim.Native.Nat.{ℕ, suc, ◌+◌, min, ◌≤◌, ◌<◌}
-use mathlib.Core.Path.{◌≡◌, sym, ap, ◌∙◌}
-use mathlib.Core.List.{List, ◌++◌}
+-- Laws of specs/Dump.antt, for the ways out of the code: the dump's lines, listing, the dump, the dump in the caller's room.
+use Prim.Native.Nat.{ℕ, ◌+◌, min, ◌≤◌, ◌<◌}
+use mathlib.Core.Path.{◌≡◌, refl, sym, ap, ◌∙◌}
+use mathlib.Core.List.{List, [], ◌∷◌, ◌++◌, append_assoc, append-nil}
 use native.Mathlib.Numerals.{add-one}
 use native.Mathlib.Omega.{arith}
 use borrow.Author.Tests.{le-leb, lt-leb}
 use lib.Dec.{leb}
-use lib.ListN.{length, get_or, take, drop, drop_of_length-le}
-use lib.Seq.{drop-cons, length-take-le}
+use lib.ListN.{length, get_or, take}
+use lib.Seq.{take-suc, length-take-le}
 use Rattle.words.specs.Words.{put}
 use Rattle.words.proofs.Laws.{bool_cases, clash, put-length}
 use Rattle.layout.specs.declared.refusal.Refusal.{Refusal}
-use Rattle.layout.specs.Layout.{area_max, word_size, used_field}
+use Rattle.layout.specs.Layout.{area_max}
 use Rattle.layout.specs.Refusals.{accepted, refuse, number_of}
-use Rattle.trie.proofs.HeaderLaws.{header-min, header-max}
+use Rattle.trie.proofs.HeaderLaws.{header-max}
 use Rattle.sound.specs.Tree.{listed}
-use Rattle.audit.specs.declared.checking.Listed.{Listed}
+use Rattle.std.specs.Prelude.{Result, Ok, Err}
 use Rattle.audit.specs.Check.{used_of, Judged, lists, listed_answer, list_steps, ListSays}
 use Rattle.audit.proofs.Telling.{ListTells}
 use Rattle.audit.proofs.Promises.{every-judged, list_tells, listed-few}
-use Rattle.texts.specs.Text.{saying, said}
-use Rattle.texts.proofs.Laws.{said-append, said-none}
+use Rattle.texts.specs.Text.{saying, said, Says}
+use Rattle.texts.specs.declared.Page.{Page}
+use Rattle.texts.proofs.Laws.{says-then}
 use Rattle.answers.specs.Answers.{file_max, refused_text}
 use Rattle.dumping.specs.Dump.{head_text, entry_line, entry_lines, dump_text, dumps, file_listing, dump_steps, fills, fill_steps}
 use Rattle.dumping.specs.View.{listing_text}
 
--- ---- the dump's lines: one more, none left
-module _ (area offsets out : List ℕ) (next taken : ℕ) where
-  pub lines-turn : taken < length offsets → (n : ℕ) (after : List ℕ) → saying n after ≡ said out next (entry_line area (get_or offsets taken 0))
-      → said out next (entry_lines area (drop taken offsets)) ≡ said after n (entry_lines area (drop (taken + 1) offsets))
-  unfolding entry_lines
-  lines-turn h n after e =
-      rw (drop-cons offsets taken 0 h, add-one) (sym (said-append out next (entry_line area (get_or offsets taken 0)) (entry_lines area (drop (suc taken) offsets)) n after e))
+-- ---- the dump's lines: one more
+entry_lines-append : (area a b : List ℕ) → entry_lines area (a ++ b) ≡ entry_lines area a ++ entry_lines area b
+unfolding entry_lines
+entry_lines-append area [] b = refl
+entry_lines-append area (at ∷ a) b = rw (entry_lines-append area a b) (sym (append_assoc (entry_line area at) (entry_lines area a) (entry_lines area b)))
 
-  pub lines_end : length offsets ≤ taken → next ≤ length out → saying next out ≡ said out next (entry_lines area (drop taken offsets))
-  unfolding entry_lines
-  lines_end h k = rw (drop_of_length-le offsets {i = taken} h) (said-none out next k)
+pub lines-more : {before mid after : Page} (area offsets head : List ℕ) (i : ℕ) → i < length offsets → Says before mid (head ++ entry_lines area (take i offsets))
+    → Says mid after (entry_line area (get_or offsets i 0)) → Says before after (head ++ entry_lines area (take (i + 1) offsets))
+unfolding entry_lines
+lines-more area offsets head i h s t =
+    rw (add-one, take-suc offsets i 0 h, entry_lines-append area (take i offsets) (get_or offsets i 0 ∷ []), append-nil, ← (append_assoc head))
+    (says-then (head ++ entry_lines area (take i offsets)) (entry_line area (get_or offsets i 0)) s t)
 
 -- ---- what a listing that is not refused gives: the entries stand in the list, there is a used mark, and neither bytes nor entries are many
 module _ (area scratch list : List ℕ) (n : ℕ) (left noted : List ℕ) (t : ListTells area scratch list n left noted) where
@@ -45,27 +47,18 @@ module _ (area scratch list : List ℕ) (n : ℕ) (left noted : List ℕ) (t : L
   pub tells-counts : n ≡ length (take n noted)
   tells-counts = sym (length-take-le n noted tells-fits)
 
-  pub tells-marked : used_field + word_size ≤ length area
-  tells-marked = omega (arith, header-min area t.sound.front.header)
-
   pub tells-few : length area ≤ area_max
   tells-few = header-max area t.sound.front.header
 
   pub tells-entries : length (take n noted) ≤ area_max
   tells-entries = rw (← tells-counts, t.count) (omega (arith, listed-few area (used_of area) t.tree t.sound, t.sound.front.high, tells-few))
 
--- ---- listing, where the file is not too long
+-- ---- listing, of a file that may be too long, and the dump
 module _ (area scratch list : List ℕ) where
-  pub file-large : file_max < length area → (judged : Judged area) → lists (refuse Refusal.BadHeader) scratch list ≡ file_listing area scratch list judged
-  file-large h judged = rw (lt-leb (length area) file_max h)
-
-  pub file-small : length area ≤ file_max → (judged : Judged area) → list_steps area scratch list judged ≡ file_listing area scratch list judged
-  file-small h judged = rw (le-leb (length area) file_max h)
-
-  module _ (r : Listed) (left noted : List ℕ) (e : (judged : Judged area) → lists (listed_answer r) left noted ≡ file_listing area scratch list judged) where
-    module _ (n : ℕ) (f : r ≡ Listed.Entries n) where
+  module _ (r : Result ℕ Refusal) (left noted : List ℕ) (e : (judged : Judged area) → lists (listed_answer r) left noted ≡ file_listing area scratch list judged) where
+    module _ (n : ℕ) (f : r ≡ Ok n) where
       told : (judged : Judged area) → lists (accepted n) left noted ≡ file_listing area scratch list judged
-      told judged = ap (λ (x : Listed). lists (listed_answer x) left noted) (sym f) ∙ e judged
+      told judged = ap (λ (x : Result ℕ Refusal). lists (listed_answer x) left noted) (sym f) ∙ e judged
 
       pub file-lists : ListTells area scratch list n left noted
       file-lists =
@@ -80,18 +73,15 @@ module _ (area scratch list : List ℕ) where
           → (judged : Judged area) → dumps (saying next after) left noted ≡ dump_steps area scratch list out judged
       dump-entries out next after s judged = rw (← (told judged), s, ← (tells-counts area scratch list n left noted file-lists))
 
-    pub dump-refused : (why : Refusal) → r ≡ Listed.Refused why → (out : List ℕ) (next : ℕ) (after : List ℕ) → saying next after ≡ said out 0 (refused_text (number_of why))
+    pub dump-refused : (why : Refusal) → r ≡ Err why → (out : List ℕ) (next : ℕ) (after : List ℕ) → saying next after ≡ said out 0 (refused_text (number_of why))
         → (judged : Judged area) → dumps (saying next after) left noted ≡ dump_steps area scratch list out judged
     dump-refused why f out next after s judged = rw (← (e judged), f, s)
 
--- ---- the dump in the caller's room: as listing refuses, 10 where the room is short, or the text
-module _ (area scratch list : List ℕ) (r : Listed) (left noted : List ℕ) (e : ListSays area scratch list r left noted) where
-  pub fill-refused : (why : Refusal) → r ≡ Listed.Refused why → (room : List ℕ) (judged : Judged area) → fills (refuse why) room left noted ≡ fill_steps area scratch list room judged
-  fill-refused why f room judged = rw (← (e judged), f)
-
-  module _ (n : ℕ) (f : r ≡ Listed.Entries n) where
+-- ---- the dump in the caller's room: 10 where the room is short, or the text
+module _ (area scratch list : List ℕ) (r : Result ℕ Refusal) (left noted : List ℕ) (e : ListSays area scratch list r left noted) where
+  module _ (n : ℕ) (f : r ≡ Ok n) where
     listing : (judged : Judged area) → lists (accepted n) left noted ≡ list_steps area scratch list judged
-    listing judged = ap (λ (x : Listed). lists (listed_answer x) left noted) (sym f) ∙ e judged
+    listing judged = ap (λ (x : Result ℕ Refusal). lists (listed_answer x) left noted) (sym f) ∙ e judged
 
     pub fill-lists : ListTells area scratch list n left noted
     fill-lists = list_tells area scratch list n left noted (every-judged area) (listing (every-judged area))

@@ -3,3 +3,5 @@ pub mod Filling
 pub mod Laws
 pub mod Promises
 pub mod Reaching
+pub mod Totals
+pub mod Named

@@ -1,17 +1,17 @@
 -- What the dump promises: no second outcome, scratch and list with it; and that a refusal keeps the caller's room. That it tells the area's tree is the crate printed's.
 use Prim.Native.Nat.{ℕ}
-use mathlib.Core.Path.{◌≡◌, sym, ap, ◌∙◌}
+use mathlib.Core.Path.{◌≡◌, sym, ◌∙◌}
 use mathlib.Core.List.{List}
 use lib.Dec.{leb}
 use lib.ListN.{length}
 use Rattle.words.proofs.Laws.{bool_cases, clash}
 use Rattle.layout.specs.declared.refusal.Refusal.{Refusal}
 use Rattle.layout.specs.Refusals.{accepted, refused, refuse}
-use Rattle.layout.proofs.Promises.{one-refusal}
+use Rattle.layout.proofs.Numbers.{answered-tells}
 use Rattle.audit.specs.Check.{Listing, lists, list_steps}
 use Rattle.audit.proofs.Promises.{every-judged}
 use Rattle.texts.specs.Text.{saying}
-use Rattle.dumping.specs.declared.Text.{Text}
+use Rattle.std.specs.Prelude.{Result, Err}
 use Rattle.dumping.specs.Dump.{dump_text, dumps, DumpSays, fills, fill_listing, text_answer, FillSays}
 
 -- ---- no second outcome of a dump, whichever way the area is judged
@@ -22,13 +22,10 @@ one-dump area scratch list out r s a b c d f g p q =
     ((cc), (cc), (cc), (cc))
 
 -- ---- nor of a dump in the caller's room
-one-text : (r s : Text) → text_answer r ≡ text_answer s → r ≡ s
-one-text (Text.Bytes n) (Text.Bytes k) e = cc
-one-text (Text.Bytes n) (Text.Refused why) e = clash cc
-one-text (Text.Refused why) (Text.Bytes k) e = clash cc
-one-text (Text.Refused why) (Text.Refused reason) e = ap Text.Refused (one-refusal why reason (cc))
+one-text : (r s : Result ℕ Refusal) → text_answer r ≡ text_answer s → r ≡ s
+one-text = answered-tells (λ (size : ℕ). size) (λ n k e. cc)
 
-pub one-fill : (area scratch list room : List ℕ) (r s : Text) (a b c d f g : List ℕ) → FillSays area scratch list room r a c f
+pub one-fill : (area scratch list room : List ℕ) (r s : Result ℕ Refusal) (a b c d f g : List ℕ) → FillSays area scratch list room r a c f
     → FillSays area scratch list room s b d g → (r ≡ s) × (a ≡ b) × (c ≡ d) × (f ≡ g)
 one-fill area scratch list room r s a b c d f g p q =
     let e : fills (text_answer r) a c f ≡ fills (text_answer s) b d g = p (every-judged area) ∙ sym (q (every-judged area)) in
@@ -36,7 +33,7 @@ one-fill area scratch list room r s a b c d f g p q =
 
 -- ---- a refusal keeps every byte of the room
 pub fill-keeps : (area scratch list room : List ℕ) (why : Refusal) (after left noted : List ℕ)
-    → FillSays area scratch list room (Text.Refused why) after left noted → after ≡ room
+    → FillSays area scratch list room (Err why) after left noted → after ≡ room
 fill-keeps area scratch list room why after left noted e = by (list_steps area scratch list (every-judged area)) (e (every-judged area))
   where
     by : (l : Listing) → fills (refuse why) after left noted ≡ fill_listing area room l → after ≡ room

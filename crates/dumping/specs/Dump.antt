@@ -1,13 +1,12 @@
 -- What the dump prints (RULES 7.6, 8.2 to 8.4): the text of a listing, or of its refusal; and that text in the caller's room.
-use Rattle.std.specs.Prelude.{ℕ, ◌≡◌, List, [], ◌∷◌, ◌++◌, length, take, leb}
+use Rattle.std.specs.Prelude.{ℕ, ◌≡◌, List, [], ◌∷◌, ◌++◌, length, take, leb, Result}
 use Rattle.words.specs.Words.{put}
 use Rattle.layout.specs.declared.refusal.Refusal.{Refusal}
-use Rattle.layout.specs.Refusals.{Answer, accepted, refused, refuse, guard}
+use Rattle.layout.specs.Refusals.{Answer, accepted, refused, refuse, answered, guard}
 use Rattle.property_area.specs.Value.{value_steps, name_steps, part_or_none}
 use Rattle.audit.specs.Check.{used_of, Judged, Listing, lists, list_steps}
 use Rattle.texts.specs.Text.{escaped, decimal, Said, saying, said}
 use Rattle.answers.specs.Answers.{file_max, ending, refused_text}
-use Rattle.dumping.specs.declared.Text.{Text}
 
 -- the texts: "entries ", " used ", "[", "]: [" and "]"
 abbrev pub entries_word : List ℕ
@@ -78,9 +77,8 @@ abbrev pub fill_steps : (area scratch list room : List ℕ) → Judged area → 
 fill_steps area scratch list room judged = fill_listing area room (list_steps area scratch list judged)
 
 -- what each case of the answer means
-abbrev pub text_answer : Text → Answer ℕ
-text_answer (Text.Bytes size) = accepted size
-text_answer (Text.Refused why) = refuse why
+abbrev pub text_answer : Result ℕ Refusal → Answer ℕ
+text_answer = answered (λ (size : ℕ). size)
 
-abbrev pub FillSays : (area scratch list room : List ℕ) → Text → List ℕ → List ℕ → List ℕ → Type 0
+abbrev pub FillSays : (area scratch list room : List ℕ) → Result ℕ Refusal → List ℕ → List ℕ → List ℕ → Type 0
 FillSays area scratch list room text after left noted = (judged : Judged area) → fills (text_answer text) after left noted ≡ fill_steps area scratch list room judged

@@ -7,51 +7,43 @@ ghost use Rattle.property_info.specs.Written.{short_stores};
 ghost use Rattle.allocation.specs.View.{seen, placed_step};
 ghost use Rattle.entries.specs.Entries.{lay_entry, long_entry, new_entry, add_entry};
 
-use allocation::Placed;
 use layout::{Entry, Header, Node, Refusal};
 
+// Name and value are two arguments of the call, and stay two: a struct of both would be made here to be taken apart here.
+
 // Makes a short entry where room was given.
-fn new_short(area: &mut [u8], at: usize, name: &[u8], value: &[u8]) -> Placed
+#[tactic(auto, using(crate::proofs::Laws::store_laws), unfolding(allocation::specs::View::seen, crate::specs::Entries::lay_entry))]
+fn new_short(area: &mut [u8], at: usize, name: &[u8], value: &[u8]) -> Result<usize, Refusal>
     requires { (Within area.old (entry_size + length name.now + 1) at) × (length value.now < slot_size) }
     ensures { placed_step result area.new ≡ seen (lay_entry area.old name.now at (short_stores at value.now)) }
 {
-    let entry = Entry { at };
-    if !entry.touched(area) {
-        return Placed::Refused(Refusal::Damaged);
-    }
-    property_info::init_with_value(area, entry, value);
+    Entry::touch(area, at)?;
+    property_info::init_with_value(area, at, value);
     words::put_text(area, Header::SIZE + at + Entry::SIZE, name);
-    Placed::At(at)
+    Ok(at)
 }
 
 // Makes a long entry where room was given: its value first, in room of its own.
-fn new_long(area: &mut [u8], at: usize, name: &[u8], value: &[u8]) -> Placed
+#[tactic(auto, using(crate::proofs::Laws::store_laws), unfolding(allocation::specs::View::seen, crate::specs::Entries::long_entry, crate::specs::Entries::lay_entry))]
+fn new_long(area: &mut [u8], at: usize, name: &[u8], value: &[u8]) -> Result<usize, Refusal>
     requires { (Within area.old (entry_size + length name.now + 1) at) × (at ≤ header_word area.old used_field) }
     ensures { placed_step result area.new ≡ seen (long_entry area.old name.now value.now at) }
 {
-    let room = allocation::allocate_obj(area, 0, value.len());
-    let Placed::At(far) = room else {
-        return room;
-    };
+    let far = allocation::allocate_obj(area, 0, value.len())?;
     words::put_text(area, Header::SIZE + far, value);
-    let entry = Entry { at };
-    if !entry.touched(area) {
-        return Placed::Refused(Refusal::Damaged);
-    }
-    property_info::init_with_long_offset(area, entry, (far - at) as u32);
+    Entry::touch(area, at)?;
+    property_info::init_with_long_offset(area, at, (far - at) as u32);
     words::put_text(area, Header::SIZE + at + Entry::SIZE, name);
-    Placed::At(at)
+    Ok(at)
 }
 
-// A new entry of a name and a value, not linked yet.
-fn new_prop_info(area: &mut [u8], name: &[u8], value: &[u8]) -> Placed
+// A new entry of a name and a value, not linked yet. The area is lent to be written, so no type carries that it has a header.
+#[tactic(auto, unfolding(allocation::specs::View::seen, crate::specs::Entries::new_entry))]
+fn new_prop_info(area: &mut [u8], name: &[u8], value: &[u8]) -> Result<usize, Refusal>
     requires { header_size ≤ length area.old }
     ensures { placed_step result area.new ≡ seen (new_entry area.old name.now value.now) }
 {
-    let room = allocation::allocate_obj(area, Entry::SIZE, name.len());
-    let Placed::At(at) = room else {
-        return room;
-    };
+    let at = allocation::allocate_obj(area, Entry::SIZE, name.len())?;
     // 92 bytes are already long: the slot holds the value's zero too.
     if value.len() < Entry::VALUE_MAX {
         return new_short(area, at, name, value);
@@ -60,21 +52,15 @@ fn new_prop_info(area: &mut [u8], name: &[u8], value: &[u8]) -> Placed
 }
 
 // The entry of a name at its last node: there already, or laid down and linked.
-pub fn add_entry(area: &mut [u8], node: usize, name: &[u8], value: &[u8]) -> Placed
+#[tactic(auto, unfolding(allocation::specs::View::seen, crate::specs::Entries::add_entry, words::specs::Stores::run))]
+pub fn add_entry(area: &mut [u8], node: usize, name: &[u8], value: &[u8]) -> Result<usize, Refusal>
     ensures { placed_step result area.new ≡ seen (add_entry area.old name.now value.now node) }
 {
-    let last = Node { at: node };
-    if !last.touched(area) {
-        return Placed::Refused(Refusal::Damaged);
-    }
-    let prop = last.prop(area) as usize;
+    let prop = Node::touch(area, node)?.prop() as usize;
     if prop != 0 {
-        return Placed::At(prop);
+        return Ok(prop);
     }
-    let laid = new_prop_info(area, name, value);
-    let Placed::At(at) = laid else {
-        return laid;
-    };
+    let at = new_prop_info(area, name, value)?;
     words::put_word(area, Header::SIZE + (node + Node::PROP), at as u32);
-    Placed::At(at)
+    Ok(at)
 }

@@ -9,8 +9,8 @@ use lib.ListN.{length}
 use borrow.Author.Tests.{ne_eqb}
 use Rattle.words.proofs.Laws.{bool_cases, clash}
 use Rattle.names.specs.Names.{dot, segment_order}
-use Rattle.names.specs.declared.Order.{Order}
-use Rattle.names.specs.declared.Order.TheVariants.{Less, Equal, Greater}
+use Rattle.std.specs.declared.cmp.Ordering.{Ordering}
+use Rattle.std.specs.declared.cmp.Ordering.TheVariants.{Less, Equal, Greater}
 use Rattle.names.proofs.Promises.{order-self, order-equal}
 use Rattle.layout.specs.declared.refusal.Refusal.{Refusal}
 use Rattle.layout.specs.Refusals.{Answer, accepted, refuse}
@@ -38,7 +38,7 @@ module _ (at : ℕ) (name : List ℕ) (own : Entry) (left below right : Tree)
 
 -- ---- the names along a way to an entry are found there
 -- on a side, the first of them is ordered as the side is
-side-first : (way : List Dir) (order : Order) (name : List ℕ) (tree : Tree) (at serial : ℕ) (full : List ℕ) (value : Value) → Side order name tree
+side-first : (way : List Dir) (order : Ordering) (name : List ℕ) (tree : Tree) (at serial : ℕ) (full : List ℕ) (value : Value) → Side order name tree
     → own_of (reached tree way) ≡ entry at serial full value
     → (segment : List ℕ) × (rest : List (List ℕ)) × (names_to tree way ≡ segment ∷ rest) × (segment_order segment name ≡ order)
 unfolding reached toward names_to Side
@@ -88,7 +88,7 @@ unfolding reached toward names_to spot
 names-spot segment leaf way = refl
 names-spot segment (node at name own left below right) way = by (segment_order segment name) (names-spot segment left way) (names-spot segment right way)
   where
-    by : (order : Order) → names_to left (spot segment left ++ way) ≡ names_to (reached left (spot segment left)) way
+    by : (order : Ordering) → names_to left (spot segment left ++ way) ≡ names_to (reached left (spot segment left)) way
         → names_to right (spot segment right ++ way) ≡ names_to (reached right (spot segment right)) way
         → names_to (node at name own left below right) (turn order [] (to_left ∷ spot segment left) (to_right ∷ spot segment right) ++ way)
         ≡ names_to (reached (node at name own left below right) (turn order [] (to_left ∷ spot segment left) (to_right ∷ spot segment right))) way
@@ -116,7 +116,7 @@ unfolding reached toward spot
 spot-named segment leaf = tt
 spot-named segment (node at name own left below right) = by (segment_order segment name) refl (spot-named segment left) (spot-named segment right)
   where
-    by : (order : Order) → segment_order segment name ≡ order → Named segment (reached left (spot segment left)) → Named segment (reached right (spot segment right))
+    by : (order : Ordering) → segment_order segment name ≡ order → Named segment (reached left (spot segment left)) → Named segment (reached right (spot segment right))
         → Named segment (reached (node at name own left below right) (turn order [] (to_left ∷ spot segment left) (to_right ∷ spot segment right)))
     by Equal e l r = order-equal segment name e
     by Less e l r = l

@@ -5,7 +5,7 @@ use mathlib.Core.Path.{◌≡◌}
 use mathlib.Core.List.{List, [], ◌∷◌, ◌++◌}
 use lib.ListN.{length}
 use Rattle.names.specs.Names.{segment_order}
-use Rattle.names.specs.declared.Order.{Order}
+use Rattle.std.specs.declared.cmp.Ordering.{Ordering}
 use Rattle.sound.specs.Tree.{Tree, leaf, node}
 use Rattle.sound.specs.Ways.{to_left, to_below, to_right, toward, reached, nodes}
 use Rattle.finding.specs.Look.{turn, spot, compares, summed}
@@ -32,14 +32,14 @@ module _ (measure : ℕ → ℕ) where
   passes-few segment leaf = omega arith
   passes-few segment (node at name own left below right) = by (segment_order segment name) (passes-few segment left) (passes-few segment right)
     where
-      by : (order : Order) → summed measure (passes segment left) + whole measure (toward to_below (reached left (spot segment left))) ≤ whole measure left
+      by : (order : Ordering) → summed measure (passes segment left) + whole measure (toward to_below (reached left (spot segment left))) ≤ whole measure left
           → summed measure (passes segment right) + whole measure (toward to_below (reached right (spot segment right))) ≤ whole measure right
           → measure at + summed measure (turn order [] (passes segment left) (passes segment right))
           + whole measure (toward to_below (reached (node at name own left below right) (turn order [] (to_left ∷ spot segment left) (to_right ∷ spot segment right))))
           ≤ measure at + whole measure left + whole measure below + whole measure right
-      by Order.Equal l r = omega arith
-      by Order.Less l r = omega arith
-      by Order.Greater l r = omega arith
+      by Ordering.Equal l r = omega arith
+      by Ordering.Less l r = omega arith
+      by Ordering.Greater l r = omega arith
 
 -- ---- counted: one for each
 pub length-summed : (at : List ℕ) → length at ≡ summed (λ _. 1) at
@@ -57,11 +57,11 @@ unfolding compares passes summed
 compares-summed segment leaf = omega arith
 compares-summed segment (node at name own left below right) = by (segment_order segment name) (compares-summed segment left) (compares-summed segment right)
   where
-    by : (order : Order) → compares segment left ≡ summed (λ _. 1) (passes segment left) → compares segment right ≡ summed (λ _. 1) (passes segment right)
+    by : (order : Ordering) → compares segment left ≡ summed (λ _. 1) (passes segment left) → compares segment right ≡ summed (λ _. 1) (passes segment right)
         → 1 + turn order 0 (compares segment left) (compares segment right) ≡ 1 + summed (λ _. 1) (turn order [] (passes segment left) (passes segment right))
-    by Order.Equal l r = omega arith
-    by Order.Less l r = omega arith
-    by Order.Greater l r = omega arith
+    by Ordering.Equal l r = omega arith
+    by Ordering.Less l r = omega arith
+    by Ordering.Greater l r = omega arith
 
 pub compares-few : (segment : List ℕ) (tree : Tree) → compares segment tree + nodes (toward to_below (reached tree (spot segment tree))) ≤ nodes tree
 compares-few segment tree =

@@ -12,10 +12,10 @@ use Rattle.words.specs.Words.{first_in, part}
 use Rattle.words.proofs.Laws.{first-low}
 use Rattle.words.proofs.Promises.{first-none, first-there}
 use Rattle.names.specs.Names.{dot, segment_order}
-use Rattle.names.specs.declared.Order.{Order}
-use Rattle.layout.specs.declared.text.Span.{Span}
+use Rattle.std.specs.declared.cmp.Ordering.{Ordering}
+use Rattle.std.specs.Prelude.{Ok}
 use Rattle.layout.specs.Layout.{node_size, entry_size, namelen_field, prop_field, left_field, right_field, children_field}
-use Rattle.layout.specs.Layout.{first_free, data_size, byte_of, place_of, word_at, node_ok, entry_ok, node_takes, entry_takes, text_in}
+use Rattle.layout.specs.Layout.{first_free, data_size, byte_of, place_of, word_at, node_ok, entry_ok, node_takes, entry_takes, span_at, text_in}
 use Rattle.layout.proofs.Promises.{touch-yes}
 use Rattle.trie.specs.declared.trie.Visited.{Visited}
 use Rattle.trie.specs.Trie.{node_name, follow, by_order, visit_node}
@@ -52,7 +52,7 @@ module _ (area : List ℕ) (from : ℕ) where
         by (no p) (yes q) = absurd (first-none 0 area from size (from + length text) (omega arith) q (text-zero area from text h))
         by (no p) (no q) = omega arith
 
-    pub text-reads : from + size ≤ length area → text_in area from size ≡ Span.Bytes from (from + length text)
+    pub text-reads : from + size ≤ length area → text_in area from size ≡ span_at from (from + length text)
     unfolding text_in
     text-reads fits = rw (first-zero, le-leb (from + size) (length area) fits, ne_eqb (from + length text) (from + size) (λ e. omega arith))
 
@@ -163,7 +163,7 @@ module _ (area : List ℕ) (used : ℕ) (prefix : List ℕ) (at : ℕ) (name : L
   unfolding cover
   own_room i = omega (arith, stands.room i)
 
-  node-named : node_name area at ≡ Span.Bytes (place_of at node_size) (place_of at node_size + length name)
+  node-named : node_name area at ≡ span_at (place_of at node_size) (place_of at node_size + length name)
   unfolding TreeAt TreeRule
   node-named =
       let size : word_at area at namelen_field ≡ length name = stands.bytes.0.fields 0 (omega arith) in
@@ -177,14 +177,14 @@ module _ (area : List ℕ) (used : ℕ) (prefix : List ℕ) (at : ℕ) (name : L
 
   -- a comparison with it: by the order of the segment and its name
   pub visit-node : (segment : List ℕ)
-      → visit_node area segment at ≡ turn (segment_order segment name) Visited.Same (follow (link left) (at + left_field)) (follow (link right) (at + right_field))
+      → visit_node area segment at ≡ Ok (turn (segment_order segment name) Visited.Same (follow (link left) (at + left_field)) (follow (link right) (at + right_field)))
   unfolding visit_node
-  visit-node segment = rw (node-touched, node-named, name-part) (by (segment_order segment name))
+  visit-node segment = rw (node-touched, node-named, name-part) (ap Ok (by (segment_order segment name)))
     where
-      by : (order : Order) → by_order area at order ≡ turn order Visited.Same (follow (link left) (at + left_field)) (follow (link right) (at + right_field))
-      by Order.Equal = refl
-      by Order.Less = rw left_word
-      by Order.Greater = rw right-word
+      by : (order : Ordering) → by_order area at order ≡ turn order Visited.Same (follow (link left) (at + left_field)) (follow (link right) (at + right_field))
+      by Ordering.Equal = refl
+      by Ordering.Less = rw left_word
+      by Ordering.Greater = rw right-word
 
 -- ---- an entry that a node has: no link to it is zero, and it can be touched
 abbrev pub OwnTouched : List ℕ → Entry → Type 0

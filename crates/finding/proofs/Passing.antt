@@ -10,7 +10,8 @@ use lib.ListN.{length}
 use borrow.Author.Tests.{eq-eqb, ne_eqb, eqb-true, eqb-false}
 use Rattle.words.proofs.Laws.{bool_cases}
 use Rattle.names.specs.Names.{dot, segments, segment_order}
-use Rattle.names.specs.declared.Order.{Order}
+use Rattle.std.specs.declared.cmp.Ordering.{Ordering}
+use Rattle.std.specs.Prelude.{Ok}
 use Rattle.layout.specs.Layout.{left_field, right_field, children_field, root_at, node_ok, word_at}
 use Rattle.trie.specs.declared.trie.Visited.{Visited}
 use Rattle.trie.specs.Trie.{follow, nodes_max}
@@ -35,7 +36,7 @@ passed (segment ∷ rest) below =
 -- ---- over the bytes, the same
 module _ (area : List ℕ) (used : ℕ) (prefix segment : List ℕ) where
   from-siblings : (tree : Tree) (more place : ℕ) → Standing area used prefix tree → nodes tree ≤ more
-      → by_next (follow (link tree) place) (visits_from area segment more) ≡ passes segment tree
+      → by_next (Ok (follow (link tree) place)) (visits_from area segment more) ≡ passes segment tree
   unfolding link nodes passes visits_from
   from-siblings leaf more place stands enough = refl
   from-siblings (node at name own left below right) zero place stands enough = absurd (omega arith)
@@ -47,13 +48,13 @@ module _ (area : List ℕ) (used : ℕ) (prefix segment : List ℕ) where
       (from-siblings left more (at + left_field) (stands-left area used prefix at name own left below right stands) (omega arith))
       (from-siblings right more (at + right_field) (stands-right area used prefix at name own left below right stands) (omega arith))))
     where
-      by : (order : Order) → by_next (follow (link left) (at + left_field)) (visits_from area segment more) ≡ passes segment left
-          → by_next (follow (link right) (at + right_field)) (visits_from area segment more) ≡ passes segment right
-          → by_next (turn order Visited.Same (follow (link left) (at + left_field)) (follow (link right) (at + right_field))) (visits_from area segment more)
+      by : (order : Ordering) → by_next (Ok (follow (link left) (at + left_field))) (visits_from area segment more) ≡ passes segment left
+          → by_next (Ok (follow (link right) (at + right_field))) (visits_from area segment more) ≡ passes segment right
+          → by_next (Ok (turn order Visited.Same (follow (link left) (at + left_field)) (follow (link right) (at + right_field)))) (visits_from area segment more)
           ≡ turn order [] (passes segment left) (passes segment right)
-      by Order.Equal l r = refl
-      by Order.Less l r = l
-      by Order.Greater l r = r
+      by Ordering.Equal l r = refl
+      by Ordering.Less l r = l
+      by Ordering.Greater l r = r
 
   visits-passes : (tree : Tree) (parent : ℕ) → Standing area used prefix tree → node_ok area parent ≡ true → word_at area parent children_field ≡ link tree
       → (length segment ≡ 0 → ⊥) → visits (nodes_max area) area segment parent ≡ passes segment tree
@@ -62,7 +63,7 @@ module _ (area : List ℕ) (used : ℕ) (prefix segment : List ℕ) where
       rw (ne_eqb (length segment) 0 some, touched, children)
       (by (link tree) ∙ from-siblings tree (nodes_max area) (parent + children_field) stands (omega (arith, stands.few, stands.high)))
     where
-      by : (first : ℕ) → cond (eqb first 0) [] (visits_from area segment (nodes_max area) first) ≡ by_next (follow first (parent + children_field)) (visits_from area segment (nodes_max area))
+      by : (first : ℕ) → cond (eqb first 0) [] (visits_from area segment (nodes_max area) first) ≡ by_next (Ok (follow first (parent + children_field))) (visits_from area segment (nodes_max area))
       by first = bool_cases (eqb first 0) (λ t. rw t) (λ t. rw t)
 
 visits-empty : (area segment : List ℕ) (parent : ℕ) → length segment ≡ 0 → visits (nodes_max area) area segment parent ≡ []

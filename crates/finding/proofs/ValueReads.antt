@@ -11,8 +11,9 @@ use lib.Seq.{get_or-take, length-take-le}
 use Rattle.finding.specs.Look.{value_text}
 use Rattle.words.specs.Words.{first_in, part}
 use Rattle.words.proofs.Laws.{bool_cases, clash, first-high}
+use Rattle.std.specs.Prelude.{Option}
 use Rattle.layout.specs.declared.text.Span.{Span}
-use Rattle.layout.specs.Layout.{entry_size, serial_field, slot_field, slot_size, long_offset_field, first_free, data_size, byte_of, place_of, word_at, entry_ok, entry_takes, value_takes}
+use Rattle.layout.specs.Layout.{entry_size, serial_field, slot_field, slot_size, long_offset_field, first_free, data_size, byte_of, place_of, word_at, entry_ok, entry_takes, value_takes, span_at}
 use Rattle.layout.specs.Refusals.{accepted}
 use Rattle.trie.specs.Header.{header_ok}
 use Rattle.property_area.specs.Value.{bytes, part_steps, part_or_none}
@@ -37,14 +38,14 @@ first-shift (suc k) area from bs i h l =
     (λ t. rw (here, t, add_assoc) (first-shift k area from bs (i + 1) h (omega arith)))
 
 -- a part of the area that shows some bytes
-pub record Reads (area : List ℕ) (span : Span) (shown : List ℕ) : Type 0 where
+pub record Reads (area : List ℕ) (span : Option Span) (shown : List ℕ) : Type 0 where
   pub from : ℕ
   pub to : ℕ
-  pub is : span ≡ Span.Bytes from to
+  pub is : span ≡ span_at from to
   pub bytes : part area from to ≡ shown
 
 -- where its entry can be touched, that part is told
-pub part-shown : (area : List ℕ) (at : ℕ) (span : Span) (shown : List ℕ) → header_ok area ≡ true → entry_ok area at ≡ true → Reads area span shown
+pub part-shown : (area : List ℕ) (at : ℕ) (span : Option Span) (shown : List ℕ) → header_ok area ≡ true → entry_ok area at ≡ true → Reads area span shown
     → (from : ℕ) × (to : ℕ) × (part_steps area at span ≡ accepted (bytes from to)) × (part_or_none area (part_steps area at span) ≡ shown)
 part-shown area at span shown header touched reads =
     let there = sym (part_bytes area at span header touched span refl reads.from reads.to reads.is) in
@@ -64,12 +65,12 @@ module _ (area : List ℕ) (used : ℕ) (low : first_free ≤ used) (high : used
       record {
         from = place_of at slot_field;
         to = place_of at slot_field + length (take to slot);
-        is = ap (Span.Bytes (place_of at slot_field)) there;
+        is = ap (span_at (place_of at slot_field)) there;
         bytes = part-holds area (place_of at slot_field) (take to slot) (λ k l. holds k (omega arith) ∙ sym (get_or-take to slot k 0 (omega arith))) (omega (arith, lies));
       }
 
   module _ (named : HoldsText area (place_of at entry_size) name) (whole : Without 0 name) where
-    name-reads : name_of area at ≡ Span.Bytes (place_of at entry_size) (place_of at entry_size + length name)
+    name-reads : name_of area at ≡ span_at (place_of at entry_size) (place_of at entry_size + length name)
     unfolding name_of
     name-reads =
         text-reads area (place_of at entry_size) name named whole (length area - place_of at entry_size) (omega (arith, lies)) (omega (arith, lies))
@@ -101,12 +102,10 @@ module _ (area : List ℕ) (used : ℕ) (low : first_free ≤ used) (high : used
         → InRoom used (value_cover value) → Reads area (value_of area at) (value_text value)
     unfolding ValueAt ValueRule value_cover value_text
     value-reads (short slot) word holds rule within =
-        let reads = short-reads slot holds.0 holds.1 in
-        record { from = reads.from; to = reads.to; is = sym (value-short area at (short-is area at serial word rule.0)) ∙ reads.is; bytes = reads.bytes }
+        rw (← value-short area at (short-is area at serial word rule.0)) (short-reads slot holds.0 holds.1)
     value-reads (long far text) word holds rule within =
         let fits = between used far (value_takes (length text)) low (omega arith) within in
-        let reads = long-reads far text holds.0 holds.1 rule.2 rule.3 fits.1 in
-        record { from = reads.from; to = reads.to; is = sym (value-long area at (long-is area at serial word rule.0)) ∙ reads.is; bytes = reads.bytes }
+        rw (← value-long area at (long-is area at serial word rule.0)) (long-reads far text holds.0 holds.1 rule.2 rule.3 fits.1)
 
 -- ---- the entry of the top node of a subtree: it can be touched, and its value, its name and its serial are read
 pub own-reads : (area : List ℕ) (used : ℕ) (prefix : List ℕ) (tree : Tree) (at serial : ℕ) (name : List ℕ) (value : Value) → Standing area used prefix tree

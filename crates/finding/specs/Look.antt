@@ -2,8 +2,8 @@
 use Rattle.std.specs.Prelude.{ℕ, ◌+◌, cond, List, [], ◌∷◌, length, eqb}
 use Rattle.words.specs.Words.{up_to_zero}
 use Rattle.names.specs.Names.{segment_order}
-use Rattle.names.specs.declared.Order.{Order}
-use Rattle.names.specs.declared.Order.TheVariants.{Less, Equal, Greater}
+use Rattle.std.specs.declared.cmp.Ordering.{Ordering}
+use Rattle.std.specs.declared.cmp.Ordering.TheVariants.{Less, Equal, Greater}
 use Rattle.layout.specs.declared.refusal.Refusal.{Refusal}
 use Rattle.layout.specs.Refusals.{Answer, accepted, refuse}
 use Rattle.layout.specs.Layout.{node_size, namelen_field, byte_of, word_at}
@@ -12,7 +12,7 @@ use Rattle.sound.specs.Tree.{Value, short, long, Entry, bare, entry, Tree, leaf,
 use Rattle.sound.specs.Ways.{Dir, to_left, to_right, reached}
 
 -- equal ends it, less goes left, greater right
-abbrev pub turn : {A : Type 0} → Order → A → A → A → A
+abbrev pub turn : {A : Type 0} → Ordering → A → A → A → A
 turn Equal same left right = same
 turn Less same left right = left
 turn Greater same left right = right

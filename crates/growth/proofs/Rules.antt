@@ -3,8 +3,8 @@ use Prim.Native.Nat.{ℕ}
 use mathlib.Core.Path.{◌≡◌}
 use mathlib.Core.List.{List, [], ◌∷◌, ◌++◌}
 use Rattle.names.specs.Names.{dot, segment_order}
-use Rattle.names.specs.declared.Order.{Order}
-use Rattle.names.specs.declared.Order.TheVariants.{Less, Greater}
+use Rattle.std.specs.declared.cmp.Ordering.{Ordering}
+use Rattle.std.specs.declared.cmp.Ordering.TheVariants.{Less, Greater}
 use Rattle.sound.specs.Tree.{Entry, Tree, leaf, node}
 use Rattle.sound.specs.Sound.{NodeRule, EntryRule, Side, TreeRule}
 use Rattle.sound.specs.Ways.{Dir, to_left, to_below, to_right, toward, reached}
@@ -30,7 +30,7 @@ reached-rule (to_below ∷ way) prefix (node at name own left below right) h = r
 reached-rule (to_right ∷ way) prefix (node at name own left below right) h = reached-rule way prefix right h.6
 
 -- ---- what is put somewhere keeps a side, if it does so in the place of what stood there
-side-plug : (order : Order) (name : List ℕ) (way : List Dir) (tree other : Tree)
+side-plug : (order : Ordering) (name : List ℕ) (way : List Dir) (tree other : Tree)
     → (Side order name (reached tree way) → Side order name other) → Side order name tree → Side order name (plug tree way other)
 unfolding plug hang reached toward Side
 side-plug order name [] tree other fits h = fits h
@@ -40,7 +40,7 @@ side-plug order name (to_below ∷ way) (node at with own left below right) othe
 side-plug order name (to_right ∷ way) (node at with own left below right) other fits h = (h.0, h.1, side-plug order name way right other fits h.2)
 
 -- ---- where it keeps all sides
-rule-plug : (way : List Dir) (prefix : List ℕ) (tree other : Tree) → ((order : Order) (name : List ℕ) → Side order name (reached tree way) → Side order name other)
+rule-plug : (way : List Dir) (prefix : List ℕ) (tree other : Tree) → ((order : Ordering) (name : List ℕ) → Side order name (reached tree way) → Side order name other)
     → TreeRule (prefix_at prefix tree way) other → TreeRule prefix tree → TreeRule prefix (plug tree way other)
 unfolding plug hang reached toward prefix_at TreeRule
 rule-plug [] prefix tree other fits g h = g
@@ -58,7 +58,7 @@ module _ (way : List Dir) (prefix : List ℕ) (tree : Tree) (at : ℕ) (name : L
   rule-there = rw there at (reached-rule way prefix tree rule)
 
   -- a node with the same name and sides keeps all sides
-  alike : (new : Entry) (under : Tree) (order : Order) (other : List ℕ) → Side order other (reached tree way) → Side order other (node at name new left under right)
+  alike : (new : Entry) (under : Tree) (order : Ordering) (other : List ℕ) → Side order other (reached tree way) → Side order other (node at name new left under right)
   unfolding Side
   alike new under order other h = let s : Side order other (node at name own left below right) = rw there at h in s
 
@@ -85,7 +85,7 @@ Placed segment (node at name own left below right) (to_right ∷ way) = (segment
 
 -- what stands where the search of a segment ends has the order that the segment has, if it is of that name alone
 rule-placed : (way : List Dir) (segment prefix : List ℕ) (tree other : Tree) → Placed segment tree way
-    → ((order : Order) (name : List ℕ) → segment_order segment name ≡ order → Side order name other) → TreeRule prefix other → TreeRule prefix tree → TreeRule prefix (plug tree way other)
+    → ((order : Ordering) (name : List ℕ) → segment_order segment name ≡ order → Side order name other) → TreeRule prefix other → TreeRule prefix tree → TreeRule prefix (plug tree way other)
 unfolding plug hang toward Placed TreeRule
 rule-placed [] segment prefix tree other placed fits g h = g
 rule-placed (dir ∷ way) segment prefix leaf other placed fits g h = absurd placed

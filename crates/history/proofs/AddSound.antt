@@ -8,7 +8,8 @@ use mathlib.Core.List.{List, [], ◌∷◌, ◌++◌, append-nil}
 use lib.ListN.{length, length-append}
 use Rattle.names.specs.Names.{segments}
 use Rattle.layout.specs.declared.refusal.Refusal.{Refusal}
-use Rattle.layout.specs.declared.refusal.Verdict.{Verdict}
+use Rattle.std.specs.Prelude.{Ok, Err}
+use Rattle.layout.specs.Refusals.{Verdict, pass, fail}
 use Rattle.layout.specs.Layout.{slot_size, data_size, root_at, entry_takes}
 use Rattle.builder.proofs.Used.{total-append}
 use Rattle.allocation.specs.Steps.{Step, goes, stops, stop_by, and_then, with_rooms, total}
@@ -39,16 +40,16 @@ Alike tree now = (segs : List (List ℕ)) (own : Entry) → seek segs own now �
 
 pub data AddDone (area : List ℕ) (used : ℕ) (tree : Tree) (name value : List ℕ) (step : Step) : Type 0 where
   -- the name is no name: nothing changed
-  bad_name : (why : Refusal) → name_verdict name ≡ Verdict.Refused why → step ≡ stop_by area why → AddDone area used tree name value step
+  bad_name : (why : Refusal) → name_verdict name ≡ fail why → step ≡ stop_by area why → AddDone area used tree name value step
   -- there is not room for all that is lacking
-  no_room : (wanted : ℕ) (b rooms : List ℕ) (grown : ℕ) (now : Tree) → name_verdict name ≡ Verdict.Accepted → data_size area < wanted → wanted ≤ used + lacks tree name value
+  no_room : (wanted : ℕ) (b rooms : List ℕ) (grown : ℕ) (now : Tree) → name_verdict name ≡ pass → data_size area < wanted → wanted ≤ used + lacks tree name value
       → step ≡ stops (full_number wanted) b rooms → Sound b grown now → Alike tree now → Stays area used tree name value rooms now
       → AddDone area used tree name value step
   -- it has an entry already
-  stays : (at : ℕ) (b rooms : List ℕ) (grown : ℕ) (now : Tree) (serial : ℕ) (v : Value) → name_verdict name ≡ Verdict.Accepted → used + lacks tree name value ≤ data_size area
+  stays : (at : ℕ) (b rooms : List ℕ) (grown : ℕ) (now : Tree) (serial : ℕ) (v : Value) → name_verdict name ≡ pass → used + lacks tree name value ≤ data_size area
       → step ≡ goes at b rooms → total rooms ≡ lacks tree name value → entry_of tree name ≡ entry at serial name v → Sound b grown now → Alike tree now → AddDone area used tree name value step
   -- it has one now, just laid: it shows the value
-  adds : (at : ℕ) (b rooms : List ℕ) (grown : ℕ) (now : Tree) (serial : ℕ) (v : Value) → name_verdict name ≡ Verdict.Accepted → used + lacks tree name value ≤ data_size area
+  adds : (at : ℕ) (b rooms : List ℕ) (grown : ℕ) (now : Tree) (serial : ℕ) (v : Value) → name_verdict name ≡ pass → used + lacks tree name value ≤ data_size area
       → step ≡ goes at b rooms → total rooms ≡ lacks tree name value → entry_of tree name ≡ bare → Sound b grown now → entry_of now name ≡ entry at serial name v → Laid at name value serial v
       → ((other : List ℕ) → other ≢ name → entry_of now other ≡ entry_of tree other) → AddDone area used tree name value step
 
@@ -61,7 +62,7 @@ unfolding own_lacks
 lacks-some tree name value at serial full v e = rw e refl
 
 module _ (area : List ℕ) (used : ℕ) (tree : Tree) (sound : Sound area used tree) (name value : List ℕ) where
-  module _ (named : name_verdict name ≡ Verdict.Accepted) where
+  module _ (named : name_verdict name ≡ pass) where
     steps : Step
     steps = and_then (add_path area (segments name) root_at) (λ at after. add_entry after name value at)
 
@@ -194,7 +195,7 @@ module _ (area : List ℕ) (used : ℕ) (tree : Tree) (sound : Sound area used t
         on (no less) = let fits : used + missing (segments name) tree ≤ data_size area = omega arith in
             went (path-goes (segments name) area used tree [] root_at sound at_root (all_named name named) fits) fits
 
-  refused-name : (why : Refusal) → name_verdict name ≡ Verdict.Refused why → AddDone area used tree name value (add_steps area name value)
+  refused-name : (why : Refusal) → name_verdict name ≡ fail why → AddDone area used tree name value (add_steps area name value)
   unfolding add_steps
   refused-name why e = bad_name why e (rw (sound.front.header, e) refl)
 
@@ -202,5 +203,5 @@ module _ (area : List ℕ) (used : ℕ) (tree : Tree) (sound : Sound area used t
   add-sound = on (name_verdict name) refl
     where
       on : (v : Verdict) → name_verdict name ≡ v → AddDone area used tree name value (add_steps area name value)
-      on Verdict.Accepted e = accepted-name e
-      on (Verdict.Refused why) e = refused-name why e
+      on (Ok _) e = accepted-name e
+      on (Err why) e = refused-name why e

@@ -3,8 +3,8 @@ use Prim.Native.Nat.{ℕ}
 use mathlib.Core.Path.{◌≡◌, refl, sym, ◌∙◌}
 use mathlib.Core.List.{List, [], ◌∷◌}
 use Rattle.names.specs.Names.{segment_order}
-use Rattle.names.specs.declared.Order.{Order}
-use Rattle.names.specs.declared.Order.TheVariants.{Less, Equal, Greater}
+use Rattle.std.specs.declared.cmp.Ordering.{Ordering}
+use Rattle.std.specs.declared.cmp.Ordering.TheVariants.{Less, Equal, Greater}
 use Rattle.names.proofs.Promises.{order-self, order-equal}
 use Rattle.sound.specs.Tree.{Entry, bare, Tree, leaf, node}
 use Rattle.sound.specs.Ways.{Dir, to_left, to_below, to_right, toward, reached}
@@ -21,7 +21,7 @@ unfolding spot Placed
 spot-placed segment leaf = tt
 spot-placed segment (node at name own left below right) = by (segment_order segment name) refl (spot-placed segment left) (spot-placed segment right)
   where
-    by : (order : Order) → segment_order segment name ≡ order → Placed segment left (spot segment left) → Placed segment right (spot segment right)
+    by : (order : Ordering) → segment_order segment name ≡ order → Placed segment left (spot segment left) → Placed segment right (spot segment right)
         → Placed segment (node at name own left below right) (turn order [] (to_left ∷ spot segment left) (to_right ∷ spot segment right))
     by Equal is l r = sym (order-equal segment name is)
     by Less is l r = (is, l)
@@ -46,7 +46,7 @@ module _ (segment : List ℕ) (at : ℕ) (own : Entry) (left below right : Tree)
   spot-plug leaf = rw (order-self segment)
   spot-plug (node place name other l b r) = by (segment_order segment name) refl (spot-plug l) (spot-plug r)
     where
-      by : (order : Order) → segment_order segment name ≡ order
+      by : (order : Ordering) → segment_order segment name ≡ order
           → spot segment (plug l (spot segment l) (node at segment own left below right)) ≡ spot segment l
           → spot segment (plug r (spot segment r) (node at segment own left below right)) ≡ spot segment r
           → spot segment (plug (node place name other l b r) (turn order [] (to_left ∷ spot segment l) (to_right ∷ spot segment r)) (node at segment own left below right))
@@ -63,7 +63,7 @@ pub seek-alike : (segment : List ℕ) (rest : List (List ℕ)) (above : Entry) (
 seek-alike segment rest above at name own own' left left' below below' right right' l b r =
     seek-node segment rest above at name own' left' below' right' ∙ by (segment_order segment name) refl ∙ sym (seek-node segment rest above at name own left below right)
   where
-    by : (order : Order) → segment_order segment name ≡ order
+    by : (order : Ordering) → segment_order segment name ≡ order
         → turn order (seek rest own' below') (seek (segment ∷ rest) above left') (seek (segment ∷ rest) above right')
         ≡ turn order (seek rest own below) (seek (segment ∷ rest) above left) (seek (segment ∷ rest) above right)
     by Less is = l
@@ -94,7 +94,7 @@ seek-bare : (at : ℕ) (name : List ℕ) (segs : List (List ℕ)) (above : Entry
 seek-bare at name [] above = unfold seek in refl
 seek-bare at name (segment ∷ rest) above = seek-node segment rest above at name bare leaf leaf leaf ∙ by (segment_order segment name)
   where
-    by : (order : Order) → turn order (seek rest bare leaf) (seek (segment ∷ rest) above leaf) (seek (segment ∷ rest) above leaf) ≡ seek (segment ∷ rest) above leaf
+    by : (order : Ordering) → turn order (seek rest bare leaf) (seek (segment ∷ rest) above leaf) (seek (segment ∷ rest) above leaf) ≡ seek (segment ∷ rest) above leaf
     by Less = refl
     by Equal = seek-leaf rest ∙ unfold seek spot reached in refl
     by Greater = refl

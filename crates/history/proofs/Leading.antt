@@ -6,8 +6,8 @@ use mathlib.Core.Logic.{◌≢◌}
 use mathlib.Core.List.{List, [], ◌∷◌, ◌++◌}
 use Rattle.words.proofs.Laws.{clash}
 use Rattle.names.specs.Names.{segments, segment_order}
-use Rattle.names.specs.declared.Order.{Order}
-use Rattle.names.specs.declared.Order.TheVariants.{Less, Equal, Greater}
+use Rattle.std.specs.declared.cmp.Ordering.{Ordering}
+use Rattle.std.specs.declared.cmp.Ordering.TheVariants.{Less, Equal, Greater}
 use Rattle.names.proofs.Promises.{order-equal}
 use Rattle.sound.specs.Tree.{Value, short, Entry, bare, entry, Tree, leaf, node}
 use Rattle.sound.specs.Sound.{ValueRule, EntryRule, TreeRule}
@@ -70,7 +70,7 @@ module _ (at serial : ℕ) (name : List ℕ) (value : Value) where
       by (segment_order segment full) refl rest (sym (seek-node segment rest above place full next l b r) ∙ e)
       (leads-from l segment rest above) (leads-from r segment rest above) (λ first more. leads-from b first more next)
     where
-      by : (order : Order) → segment_order segment full ≡ order → (rest : List (List ℕ))
+      by : (order : Ordering) → segment_order segment full ≡ order → (rest : List (List ℕ))
           → turn order (seek rest next b) (seek (segment ∷ rest) above l) (seek (segment ∷ rest) above r) ≡ entry at serial name value
           → (seek (segment ∷ rest) above l ≡ entry at serial name value → Leads l (segment ∷ rest) (entry at serial name value))
           → (seek (segment ∷ rest) above r ≡ entry at serial name value → Leads r (segment ∷ rest) (entry at serial name value))

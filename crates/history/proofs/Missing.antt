@@ -6,8 +6,8 @@ use mathlib.Core.List.{List, [], ◌∷◌, ◌++◌, append-nil}
 use lib.ListN.{length}
 use Rattle.words.proofs.Laws.{clash}
 use Rattle.names.specs.Names.{dot, segments, segment_order}
-use Rattle.names.specs.declared.Order.{Order}
-use Rattle.names.specs.declared.Order.TheVariants.{Less, Equal, Greater}
+use Rattle.std.specs.declared.cmp.Ordering.{Ordering}
+use Rattle.std.specs.declared.cmp.Ordering.TheVariants.{Less, Equal, Greater}
 use Rattle.names.proofs.Promises.{order-self}
 use Rattle.layout.specs.Layout.{node_takes}
 use Rattle.sound.specs.Tree.{Entry, bare, entry, Tree, leaf, node}
@@ -30,7 +30,7 @@ missing-node segment rest at name own left below right = by (segment_order segme
     on : Tree → ℕ
     on end = by_node end (node_takes (length segment) + missing rest leaf) (λ next under. missing rest under)
 
-    by : (order : Order)
+    by : (order : Ordering)
         → on (reached (node at name own left below right) (turn order [] (to_left ∷ spot segment left) (to_right ∷ spot segment right)))
         ≡ turn order (missing rest below) (on (reached left (spot segment left))) (on (reached right (spot segment right)))
     by Equal = refl

@@ -1,7 +1,7 @@
 -- The name's verdict, told by its segments: it is accepted if and only if each may name a node. So a name that is refused is no entry's.
 use Prim.Native.Nat.{ℕ, zero, suc}
 use native.Mathlib.Omega.{arith}
-use mathlib.Core.Path.{◌≡◌}
+use mathlib.Core.Path.{◌≡◌, refl}
 use mathlib.Core.Logic.{◌≢◌}
 use mathlib.Core.Bool.{true, false}
 use mathlib.Core.List.{List, [], ◌∷◌}
@@ -13,34 +13,39 @@ use Rattle.words.proofs.Laws.{bool_cases, clash}
 use Rattle.words.proofs.Promises.{first-none, first-there}
 use Rattle.names.specs.Names.{dot, on_first, segments}
 use Rattle.layout.specs.declared.refusal.Refusal.{Refusal}
-use Rattle.layout.specs.declared.refusal.Verdict.{Verdict}
+use Rattle.layout.specs.Refusals.{number_of, pass, fail}
 use Rattle.builder.specs.Add.{any_empty, name_verdict}
 use Rattle.sound.specs.Sound.{Without}
 use Rattle.history.proofs.AddPath.{AllNamed}
+use Rattle.history.proofs.Undamaged.{Mild, mild}
 
 -- ---- the two tests of a verdict
 module _ (name : List ℕ) where
-  accepted-tests : name_verdict name ≡ Verdict.Accepted → (has_zero name ≡ false) × (any_empty (segments name) ≡ false)
+  accepted-tests : name_verdict name ≡ pass → (has_zero name ≡ false) × (any_empty (segments name) ≡ false)
   unfolding name_verdict
   accepted-tests e =
       bool_cases (has_zero name)
-      (λ t. let k : Verdict.Refused Refusal.ZeroByte ≡ Verdict.Accepted = rw t at e in clash cc)
+      (λ t. let k : fail Refusal.ZeroByte ≡ pass = rw t at e in clash cc)
       (λ t. bool_cases (any_empty (segments name))
-      (λ u. let k : Verdict.Refused Refusal.EmptySegment ≡ Verdict.Accepted = rw (t, u) at e in clash cc)
+      (λ u. let k : fail Refusal.EmptySegment ≡ pass = rw (t, u) at e in clash cc)
       (λ u. (t, u)))
 
-  pub none-empty : name_verdict name ≡ Verdict.Accepted → any_empty (segments name) ≡ false
+  -- what is accepted is not refused
+  pub not-refused : {P : Type 0} → name_verdict name ≡ pass → (why : Refusal) → name_verdict name ≡ fail why → P
+  not-refused e why f = clash cc
+
+  pub none-empty : name_verdict name ≡ pass → any_empty (segments name) ≡ false
   none-empty e = (accepted-tests e).1
 
   -- no test of a name tells of damage or of a bad header
-  pub verdict-refused : (why : Refusal) → name_verdict name ≡ Verdict.Refused why → (why ≢ Refusal.Damaged) × (why ≢ Refusal.BadHeader)
+  pub verdict-refused : (why : Refusal) → name_verdict name ≡ fail why → Mild (number_of why)
   unfolding name_verdict
   verdict-refused why e =
       bool_cases (has_zero name)
-      (λ t. let k : Verdict.Refused Refusal.ZeroByte ≡ Verdict.Refused why = rw t at e in ((λ d. clash cc), (λ h. clash cc)))
+      (λ t. let k : fail Refusal.ZeroByte ≡ fail why = rw t at e in let z : Refusal.ZeroByte ≡ why = cc in rw (← z) (mild (number_of Refusal.ZeroByte) refl refl refl))
       (λ t. bool_cases (any_empty (segments name))
-      (λ u. let k : Verdict.Refused Refusal.EmptySegment ≡ Verdict.Refused why = rw (t, u) at e in ((λ d. clash cc), (λ h. clash cc)))
-      (λ u. let k : Verdict.Accepted ≡ Verdict.Refused why = rw (t, u) at e in clash cc))
+      (λ u. let k : fail Refusal.EmptySegment ≡ fail why = rw (t, u) at e in let z : Refusal.EmptySegment ≡ why = cc in rw (← z) (mild (number_of Refusal.EmptySegment) refl refl refl))
+      (λ u. let k : pass ≡ fail why = rw (t, u) at e in clash cc))
 
   -- the scan for a zero
   zero-none : has_zero name ≡ false → Without 0 name
@@ -107,7 +112,7 @@ clean-named (segment ∷ rest) clean full =
       clean-named rest clean.2 (rw t at full),
     ))
 
-pub all_named : (name : List ℕ) → name_verdict name ≡ Verdict.Accepted → AllNamed (segments name)
+pub all_named : (name : List ℕ) → name_verdict name ≡ pass → AllNamed (segments name)
 all_named name e =
     let tests = accepted-tests name e in
     clean-named (segments name) (whole-clean name (zero-none name tests.0)) tests.1

@@ -12,9 +12,8 @@ use Rattle.words.proofs.Laws.{bool_cases, clash}
 use Rattle.words.proofs.Promises.{same-eq}
 use Rattle.names.specs.Names.{segments}
 use Rattle.layout.specs.declared.refusal.Refusal.{Refusal}
-use Rattle.layout.specs.declared.refusal.Verdict.{Verdict}
 use Rattle.layout.specs.Layout.{word_max, slot_size, data_size}
-use Rattle.layout.specs.Refusals.{accepted, refused, number_of, no_refusal, number_in, bytes_in}
+use Rattle.layout.specs.Refusals.{pass, accepted, refused, number_of, no_refusal, number_in, bytes_in}
 use Rattle.layout.proofs.Numbers.{number-some}
 use Rattle.property_area.specs.Find.{hit, find_steps}
 use Rattle.property_area.specs.Value.{serial_steps}
@@ -32,6 +31,7 @@ use Rattle.finding.proofs.Promises.{find-refusals}
 use Rattle.history.proofs.Rooms.{full_number, full-number, which-number}
 use Rattle.history.proofs.Undamaged.{Mild, room-mild, found-mild}
 use Rattle.history.proofs.Leading.{finds-own}
+use Rattle.history.proofs.Naming.{not-refused}
 use Rattle.history.proofs.EntryAdded.{laid-serial}
 use Rattle.history.proofs.AddSound.{AddDone, bad_name, no_room, stays, adds, add-sound}
 use Rattle.history.proofs.UpdateSound.{Stands, UpdateDone, unfound, long_entry, too_long, done, update-sound}
@@ -41,45 +41,45 @@ use Rattle.history.proofs.Run.{matched-shows, shown-matches}
 
 module _ (area : List ℕ) (used : ℕ) (tree : Tree) (sound : Sound area used tree) (name value : List ℕ) where
   -- an add whose name is neither 1 nor 2 is accepted if used plus all missing padded sizes is at most data size
-  pub add-accepted : name_verdict name ≡ Verdict.Accepted → used + lacks tree name value ≤ data_size area → number_in (call area (add name value)) ≡ no_refusal
+  pub add-accepted : name_verdict name ≡ pass → used + lacks tree name value ≤ data_size area → number_in (call area (add name value)) ≡ no_refusal
   add-accepted named fits = by (add-sound area used tree sound name value)
     where
       by : AddDone area used tree name value (add_steps area name value) → number_in (outcome (add_steps area name value)) ≡ no_refusal
-      by (bad_name why e is) = absurd (let q : Verdict.Accepted ≡ Verdict.Refused why = sym named ∙ e in clash cc)
+      by (bad_name why e is) = not-refused name named why e
       by (no_room wanted b rooms grown now e over within is S same left) = absurd (omega (arith, over, within, fits))
       by (stays at b rooms grown now serial v e room is sum has S same) = ap (λ (s : Step). number_in (outcome s)) is
       by (adds at b rooms grown now serial v e room is sum has S new laid others) = ap (λ (s : Step). number_in (outcome s)) is
 
   -- and refused if not: with 4 or 9, and 9 only where that sum passes 32 bits
-  pub add-refused : name_verdict name ≡ Verdict.Accepted → data_size area < used + lacks tree name value
+  pub add-refused : name_verdict name ≡ pass → data_size area < used + lacks tree name value
       → (number_in (call area (add name value)) ≡ number_of Refusal.NoRoom) ⊎ ((number_in (call area (add name value)) ≡ number_of Refusal.TooLarge) × (word_max < used + lacks tree name value))
   add-refused named over = by (add-sound area used tree sound name value)
     where
       by : AddDone area used tree name value (add_steps area name value)
           → (number_in (outcome (add_steps area name value)) ≡ number_of Refusal.NoRoom) ⊎ ((number_in (outcome (add_steps area name value)) ≡ number_of Refusal.TooLarge) × (word_max < used + lacks tree name value))
-      by (bad_name why e is) = absurd (let q : Verdict.Accepted ≡ Verdict.Refused why = sym named ∙ e in clash cc)
+      by (bad_name why e is) = not-refused name named why e
       by (no_room wanted b rooms grown now e full within is S same left) = which-number wanted _ (used + lacks tree name value) within (ap (λ (s : Step). number_in (outcome s)) is)
       by (stays at b rooms grown now serial v e room is sum has S same) = absurd (omega (arith, over, room))
       by (adds at b rooms grown now serial v e room is sum has S new laid others) = absurd (omega (arith, over, room))
 
   -- an accepted add gives room to what is missing and to nothing else
-  pub add-rooms : name_verdict name ≡ Verdict.Accepted → used + lacks tree name value ≤ data_size area → total (op_rooms area (add name value)) ≡ lacks tree name value
+  pub add-rooms : name_verdict name ≡ pass → used + lacks tree name value ≤ data_size area → total (op_rooms area (add name value)) ≡ lacks tree name value
   add-rooms named fits = by (add-sound area used tree sound name value)
     where
       by : AddDone area used tree name value (add_steps area name value) → total (rooms_in (add_steps area name value)) ≡ lacks tree name value
-      by (bad_name why e is) = absurd (let q : Verdict.Accepted ≡ Verdict.Refused why = sym named ∙ e in clash cc)
+      by (bad_name why e is) = not-refused name named why e
       by (no_room wanted b rooms grown now e over within is S same left) = absurd (omega (arith, over, within, fits))
       by (stays at b rooms grown now serial v e room is sum has S same) = ap (λ (s : Step). total (rooms_in s)) is ∙ sum
       by (adds at b rooms grown now serial v e room is sum has S new laid others) = ap (λ (s : Step). total (rooms_in s)) is ∙ sum
 
   -- a refused one leaves the nodes that it linked, and used includes them
-  pub add-stays : name_verdict name ≡ Verdict.Accepted → number_in (call area (add name value)) ≢ no_refusal
+  pub add-stays : name_verdict name ≡ pass → number_in (call area (add name value)) ≢ no_refusal
       → (now : Tree) × Sound (bytes_in (call area (add name value))) (used + total (op_rooms area (add name value))) now × Stays area used tree name value (op_rooms area (add name value)) now
   add-stays named refuses = by (add-sound area used tree sound name value)
     where
       by : AddDone area used tree name value (add_steps area name value)
           → (now : Tree) × Sound (bytes_in (outcome (add_steps area name value))) (used + total (rooms_in (add_steps area name value))) now × Stays area used tree name value (rooms_in (add_steps area name value)) now
-      by (bad_name why e is) = absurd (let q : Verdict.Accepted ≡ Verdict.Refused why = sym named ∙ e in clash cc)
+      by (bad_name why e is) = not-refused name named why e
       by (no_room wanted b rooms grown now e over within is S same left) =
           rw is (now, subst (λ (k : ℕ). Sound b k now) (moved area used tree sound name value (stops (full_number wanted) b rooms) is b grown now refl S) S, left)
       by (stays at b rooms grown now serial v e room is sum has S same) = absurd (refuses (ap (λ (s : Step). number_in (outcome s)) is))
@@ -96,8 +96,7 @@ module _ (area : List ℕ) (used : ℕ) (tree : Tree) (sound : Sound area used t
           × (serial_steps (bytes_in (outcome (add_steps area name value))) at ≡ accepted (cond (ltb (length value) slot_size) (short_serial (length value)) long_serial))
       by (bad_name why e is) = absurd (number-some why (sym (ap (λ (s : Step). number_in (outcome s)) is) ∙ fine))
       by (no_room wanted b rooms grown now e over within is S same left) =
-          let mild = room-mild (full_number wanted) (full-number wanted) in
-          absurd (number-some mild.0 (sym mild.1 ∙ sym (ap (λ (s : Step). number_in (outcome s)) is) ∙ fine))
+          absurd ((room-mild (full_number wanted) (full-number wanted)).0 (sym (ap (λ (s : Step). number_in (outcome s)) is) ∙ fine))
       by (stays at b rooms grown now serial v e room is sum has S same) =
           let f = entry_found area used tree sound name at serial name v has in
           absurd (let q : accepted (hit at f.0) ≡ refused number = sym f.1 ∙ missing in clash cc)
@@ -130,7 +129,7 @@ module _ (area : List ℕ) (used : ℕ) (tree : Tree) (sound : Sound area used t
     where
       -- a refusal's number is not 0
       refused-not : (number : ℕ) → Mild number → number_in (update_steps area name value) ≡ number → ⊥
-      refused-not number mild e = number-some mild.0 (sym mild.1 ∙ sym e ∙ fine)
+      refused-not number mild e = mild.0 (sym e ∙ fine)
 
       by : UpdateDone area used tree name value (update_steps area name value)
           → (at : ℕ) × (serial : ℕ) × (slot : List ℕ) × (entry_of tree name ≡ entry at serial name (short slot)) × (length value < slot_size)

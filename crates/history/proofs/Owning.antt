@@ -5,8 +5,8 @@ use mathlib.Core.Logic.{◌≢◌}
 use mathlib.Core.List.{List, [], ◌∷◌, ◌++◌}
 use Rattle.words.proofs.Laws.{clash}
 use Rattle.names.specs.Names.{dot, segment_order}
-use Rattle.names.specs.declared.Order.{Order}
-use Rattle.names.specs.declared.Order.TheVariants.{Less, Greater}
+use Rattle.std.specs.declared.cmp.Ordering.{Ordering}
+use Rattle.std.specs.declared.cmp.Ordering.TheVariants.{Less, Greater}
 use Rattle.names.proofs.Promises.{order-self}
 use Rattle.sound.specs.Tree.{Entry, Tree, leaf, node}
 use Rattle.sound.specs.Sound.{Side, TreeRule}
@@ -40,7 +40,7 @@ plug-own (to_right ∷ way) (node at name own left below right) = rw (plug-own w
 
 module _ (at : ℕ) (name : List ℕ) (own : Entry) (left below right : Tree) where
   -- ---- on a side, the first name along a way to a node is ordered as the side is
-  pub side-first : (way : List Dir) (order : Order) (full : List ℕ) (tree : Tree) → Side order full tree → reached tree way ≡ node at name own left below right
+  pub side-first : (way : List Dir) (order : Ordering) (full : List ℕ) (tree : Tree) → Side order full tree → reached tree way ≡ node at name own left below right
       → (segment : List ℕ) × (rest : List (List ℕ)) × (names_to tree way ≡ segment ∷ rest) × (segment_order segment full ≡ order)
   unfolding reached toward names_to Side
   side-first [] order full leaf side is = clash cc

@@ -12,9 +12,8 @@ use lib.Dec.{ltb}
 use Rattle.words.specs.Words.{put}
 use Rattle.names.specs.Names.{segments}
 use Rattle.layout.specs.declared.refusal.Refusal.{Refusal}
-use Rattle.layout.specs.declared.refusal.Verdict.{Verdict}
 use Rattle.layout.specs.Layout.{word_max, area_max, serial_field, slot_size, backup_at, first_free, format_min, data_size, byte_of, word_at, header_word, used_field}
-use Rattle.layout.specs.Refusals.{accepted, refused, refuse, number_of, no_refusal, accept_leaving, number_in, bytes_in}
+use Rattle.layout.specs.Refusals.{pass, accepted, refused, refuse, number_of, no_refusal, accept_leaving, number_in, bytes_in}
 use Rattle.property_area.specs.Find.{hit, find_steps}
 use Rattle.property_area.specs.Value.{serial_steps}
 use Rattle.property_area.specs.Walked.{walked}
@@ -58,16 +57,16 @@ module _ (n : ℕ) (low : format_min ≤ n) (high : n ≤ area_max) where
 -- one call, over a sound area
 module _ (area : List ℕ) (used : ℕ) (tree : Tree) (sound : Sound area used tree) (name value : List ℕ) where
   -- ---- an add whose name is neither 1 nor 2 is accepted if used plus all missing padded sizes is at most data size
-  pub add-accepted : name_verdict name ≡ Verdict.Accepted → used + lacks tree name value ≤ data_size area → number_in (call area (add name value)) ≡ no_refusal
+  pub add-accepted : name_verdict name ≡ pass → used + lacks tree name value ≤ data_size area → number_in (call area (add name value)) ≡ no_refusal
   add-accepted = one_call.add-accepted area used tree sound name value
 
   -- ---- and refused if not: with 4 or 9, and 9 only where that sum passes 32 bits
-  pub add-refused : name_verdict name ≡ Verdict.Accepted → data_size area < used + lacks tree name value
+  pub add-refused : name_verdict name ≡ pass → data_size area < used + lacks tree name value
       → (number_in (call area (add name value)) ≡ number_of Refusal.NoRoom) ⊎ ((number_in (call area (add name value)) ≡ number_of Refusal.TooLarge) × (word_max < used + lacks tree name value))
   add-refused = one_call.add-refused area used tree sound name value
 
   -- ---- an accepted add gives room to what is missing and to nothing else
-  pub add-rooms : name_verdict name ≡ Verdict.Accepted → used + lacks tree name value ≤ data_size area → total (op_rooms area (add name value)) ≡ lacks tree name value
+  pub add-rooms : name_verdict name ≡ pass → used + lacks tree name value ≤ data_size area → total (op_rooms area (add name value)) ≡ lacks tree name value
   add-rooms = one_call.add-rooms area used tree sound name value
 
   -- ---- one of a name that was not found lays down an entry: find finds it, and its serial is its value's length times 2^24, or 0x32010000 where that is 92 bytes or more
@@ -77,7 +76,7 @@ module _ (area : List ℕ) (used : ℕ) (tree : Tree) (sound : Sound area used t
   add-serial = one_call.add-serial area used tree sound name value
 
   -- ---- a refused one leaves the area sound. What it linked stays, and the used mark counts it, with the entry's room where only the long value found none
-  pub add-stays : name_verdict name ≡ Verdict.Accepted → number_in (call area (add name value)) ≢ no_refusal
+  pub add-stays : name_verdict name ≡ pass → number_in (call area (add name value)) ≢ no_refusal
       → (now : Tree) × Sound (bytes_in (call area (add name value))) (used + total (op_rooms area (add name value))) now × Stays area used tree name value (op_rooms area (add name value)) now
   add-stays = one_call.add-stays area used tree sound name value
 

@@ -7,8 +7,8 @@ use lib.Dec.{eqb}
 use lib.ListN.{length}
 use Rattle.words.proofs.Laws.{bool_cases, clash}
 use Rattle.names.specs.Names.{segment_order}
-use Rattle.names.specs.declared.Order.{Order}
-use Rattle.names.specs.declared.Order.TheVariants.{Less, Equal, Greater}
+use Rattle.std.specs.declared.cmp.Ordering.{Ordering}
+use Rattle.std.specs.declared.cmp.Ordering.TheVariants.{Less, Equal, Greater}
 use Rattle.layout.specs.declared.refusal.Refusal.{Refusal}
 use Rattle.layout.specs.Refusals.{accepted, refuse}
 use Rattle.property_area.specs.Find.{hit}
@@ -25,7 +25,7 @@ pub seek-node : (segment : List ℕ) (rest : List (List ℕ)) (above : Entry) (a
 unfolding seek spot reached toward
 seek-node segment rest above at name own left below right = by (segment_order segment name)
   where
-    by : (order : Order)
+    by : (order : Ordering)
         → by_node (reached (node at name own left below right) (turn order [] (to_left ∷ spot segment left) (to_right ∷ spot segment right))) bare (λ next under. seek rest next under)
         ≡ turn order (seek rest own below) (by_node (reached left (spot segment left)) bare (λ next under. seek rest next under))
         (by_node (reached right (spot segment right)) bare (λ next under. seek rest next under))

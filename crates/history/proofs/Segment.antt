@@ -9,8 +9,8 @@ use borrow.Author.Tests.{ne_eqb}
 use Rattle.words.specs.Words.{little_at}
 use Rattle.words.proofs.Laws.{clash}
 use Rattle.names.specs.Names.{segment_order}
-use Rattle.names.specs.declared.Order.{Order}
-use Rattle.names.specs.declared.Order.TheVariants.{Less, Equal, Greater}
+use Rattle.std.specs.declared.cmp.Ordering.{Ordering}
+use Rattle.std.specs.declared.cmp.Ordering.TheVariants.{Less, Equal, Greater}
 use Rattle.names.proofs.Promises.{order-self}
 use Rattle.layout.specs.Layout.{word_size, left_field, right_field, children_field, data_size, byte_of, place_of, word_at, node_takes}
 use Rattle.trie.specs.Trie.{nodes_max, segment_steps}
@@ -62,7 +62,7 @@ unfolding above spot
 above-spot segment leaf = refl
 above-spot segment (node at name own left below right) = by (segment_order segment name) (above-spot segment left) (above-spot segment right)
   where
-    by : (order : Order) → above left (spot segment left) ≡ [] → above right (spot segment right) ≡ []
+    by : (order : Ordering) → above left (spot segment left) ≡ [] → above right (spot segment right) ≡ []
         → above (node at name own left below right) (turn order [] (to_left ∷ spot segment left) (to_right ∷ spot segment right)) ≡ []
     by Equal l r = refl
     by Less l r = l

@@ -1,24 +1,23 @@
 -- Laws of specs/Layout.antt: when an object is touched, and where a text ends.
-use mathlib.Core.Path.{◌≡◌, sym, ◌∙◌}
+use mathlib.Core.Path.{◌≡◌, sym, ap, ◌∙◌}
 use mathlib.Core.Bool.{Bool, true, false}
 use mathlib.Core.List.{List}
-use Prim.Native.Nat.{ℕ, ◌+◌, ◌-◌, ◌%◌, ◌≤◌, ◌<◌}
-use native.Mathlib.Nat.{add-sub_cancel_left}
+use Prim.Native.Nat.{ℕ, ◌+◌, ◌%◌, ◌≤◌, ◌<◌}
 use native.Mathlib.Omega.{arith}
-use borrow.Author.Tests.{eq-eqb, ne_eqb, le-leb, lt-leb, leb-true, eqb-true, eqb-false}
+use borrow.Author.Tests.{le-leb, leb-true, eqb-true, eqb-false}
 use lib.ListN.{length}
 use lib.Dec.{eqb, leb}
 use Rattle.words.specs.Words.{first_in}
 use Rattle.words.proofs.Laws.{bool_cases, clash, first-low, first-high}
-use Rattle.layout.specs.declared.text.Span.TheVariants.{Bytes, Broken}
-use Rattle.layout.specs.Layout.{data_size, touch, text_in}
+use Rattle.std.specs.Prelude.{None, Result, Err, IsErrAnd}
+use Rattle.std.proofs.lemmas.Result.{err_from_is_err_and}
+use Rattle.layout.specs.declared.refusal.Refusal.{Refusal}
+use Rattle.layout.specs.declared.text.Span.{Span}
+use Rattle.layout.specs.Refusals.{Verdict, verdict_number, leaves, refuse_leaving}
+use Rattle.layout.specs.Layout.{data_size, touch, span_at, text_in}
 
 -- ---- touching
 module _ (area : List ℕ) (size at : ℕ) where
-  pub touch-out : data_size area < at + size → touch area size at ≡ false
-  unfolding touch
-  touch-out h = rw (lt-leb (at + size) (data_size area) h)
-
   pub touch-lies : at + size ≤ data_size area → touch area size at ≡ eqb (at % 4) 0
   unfolding touch
   touch-lies h = rw (le-leb (at + size) (data_size area) h)
@@ -36,23 +35,28 @@ touch-says area size at t =
     let h : at + size ≤ data_size area = touch-in area size at t in
     (h, eqb-true (at % 4) 0 (sym (touch-lies area size at h) ∙ t))
 
+-- ---- a refusal that is handed on is the refusal that came
+pub handed-on : {A : Type 0} (r : Result A Refusal) (why : Refusal) → IsErrAnd r (λ given. given ≡ why) → r ≡ Err why
+handed-on r why e = let p = err_from_is_err_and r e in p.1 ∙ ap Err p.2
+
+-- a place that is not touched is damage
+pub damage-handed : {A : Type 0} (r : Result A Refusal) (why : Refusal) → IsErrAnd r (λ given. given ≡ why) → why ≡ Refusal.Damaged → r ≡ Err Refusal.Damaged
+damage-handed r why e d = handed-on r why e ∙ ap Err d
+
+pub verdict-handed : (v : Verdict) (why : Refusal) (bytes : List ℕ) → IsErrAnd v (λ given. given ≡ why) → leaves (verdict_number v) bytes ≡ refuse_leaving bytes why
+verdict-handed v why bytes e = ap (λ (w : Verdict). leaves (verdict_number w) bytes) (handed-on v why e)
+
+pub verdict-damaged : (v : Verdict) (why : Refusal) (bytes : List ℕ) → IsErrAnd v (λ given. given ≡ why) → why ≡ Refusal.Damaged → leaves (verdict_number v) bytes ≡ refuse_leaving bytes Refusal.Damaged
+verdict-damaged v why bytes e d = ap (λ (w : Verdict). leaves (verdict_number w) bytes) (damage-handed v why e d)
+
 -- ---- text
-module _ (area : List ℕ) (from size : ℕ) where
-  pub text-past : length area < from + size → Broken ≡ text_in area from size
-  unfolding text_in
-  text-past h = rw (lt-leb (from + size) (length area) h)
+pub span-one : (a b from to : ℕ) → span_at a b ≡ span_at from to → (a ≡ from) × (b ≡ to)
+span-one a b from to e =
+    let f : ◌≡◌ {A = Span} (record { from = a; to = b }) (record { from = from; to = to }) = cc in
+    (ap (λ (s : Span). s.from) f, ap (λ (s : Span). s.to) f)
 
-  module _ (h : from + size ≤ length area) (to : ℕ) (g : to ≡ first_in 0 area from (from + size - from)) where
-    scanned : to ≡ first_in 0 area from size
-    scanned = rw add-sub_cancel_left at g
-
-    pub text-endless : to ≡ from + size → Broken ≡ text_in area from size
-    unfolding text_in
-    text-endless k = rw (← scanned, le-leb (from + size) (length area) h, eq-eqb to (from + size) k)
-
-    pub text-ends : (to ≡ from + size → ⊥) → Bytes from to ≡ text_in area from size
-    unfolding text_in
-    text-ends k = rw (← scanned, le-leb (from + size) (length area) h, ne_eqb to (from + size) k)
+pub span-some : {P : Type 0} (from to : ℕ) → None ≡ span_at from to → P
+span-some from to e = clash cc
 
 -- where a text stands that is not broken: its zero lies in the area too
 pub record Stands (area : List ℕ) (place size from to : ℕ) : Type 0 where
@@ -61,21 +65,25 @@ pub record Stands (area : List ℕ) (place size from to : ℕ) : Type 0 where
   pub high : to < place + size
   pub within : place + size ≤ length area
 
-pub text-stands : (area : List ℕ) (place size from to : ℕ) → text_in area place size ≡ Bytes from to → Stands area place size from to
+pub text-stands : (area : List ℕ) (place size from to : ℕ) → text_in area place size ≡ span_at from to → Stands area place size from to
 unfolding text_in
 text-stands area place size from to h =
     let z = first_in 0 area place size in
     bool_cases (leb (place + size) (length area))
     (λ e. bool_cases (eqb z (place + size))
-    (λ f. let k : Broken ≡ Bytes from to = rw (e, f) at h in clash cc)
+    (λ f. span-some from to (rw (e, f) at h))
     (λ f.
-    let k : Bytes place z ≡ Bytes from to = rw (e, f) at h in
-    let p : place ≡ from = cc in
-    let q : z ≡ to = cc in
+    let k = span-one place z from to (rw (e, f) at h) in
     record {
-      begins = sym p;
+      begins = sym k.0;
       low = omega (arith, first-low 0 area place size);
       high = omega (arith, first-high 0 area place size, eqb-false z (place + size) f);
       within = leb-true _ _ e;
     }))
-    (λ e. let k : Broken ≡ Bytes from to = rw e at h in clash cc)
+    (λ e. span-some from to (rw e at h))
+
+-- so it lies in the area
+pub text-within : (area : List ℕ) (place size from to : ℕ) → text_in area place size ≡ span_at from to → (from ≤ to) × (to < length area)
+text-within area place size from to h =
+    let s = text-stands area place size from to h in
+    (s.low, omega (arith, s.high, s.within))

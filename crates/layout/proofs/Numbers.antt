@@ -10,9 +10,8 @@ use denote.Struct.Field.{Field}
 use denote.Enum.Declared.{Choice}
 use Rattle.words.proofs.Laws.{clash}
 use Rattle.layout.specs.declared.refusal.Refusal.{Refusal}
-use Rattle.layout.specs.declared.refusal.Verdict.{Verdict}
-use Rattle.layout.specs.declared.refusal.Verdict.TheVariants.{Accepted, Refused}
-use Rattle.layout.specs.Refusals.{number_of, no_refusal, verdict_number, Outcome, leaves, accept_leaving, refuse_leaving}
+use Rattle.std.specs.Prelude.{Result, Ok, Err}
+use Rattle.layout.specs.Refusals.{accepted, answered, Verdict, fail, number_of, no_refusal, verdict_number, Outcome, leaves, accept_leaving, refuse_leaving}
 use Rattle.layout.specs.contracts.refusal.Refusal.{the_parts as parts, as_values, the_make as make, the_eta as eta}
 
 -- both of two tests hold
@@ -64,12 +63,19 @@ number-one a b e =
     let same : numbered (as_values a) ≡ numbered (as_values b) = ap number_of (eta a) ∙ e ∙ sym (ap number_of (eta b)) in
     sym (eta a) ∙ ap make (distinct-says parts numbered refl (as_values a) (as_values b) same) ∙ eta b
 
+-- ---- an answer by its number tells the case, where its value tells what it was read from
+pub answered-tells : {A B : Type 0} (f : A → B) → ((a b : A) → accepted (f a) ≡ accepted (f b) → a ≡ b) → (r s : Result A Refusal) → answered f r ≡ answered f s → r ≡ s
+answered-tells f one (Ok a) (Ok b) e = ap Ok (one a b e)
+answered-tells f one (Ok a) (Err w) e = clash cc
+answered-tells f one (Err v) (Ok b) e = clash cc
+answered-tells f one (Err v) (Err w) e = let k : number_of v ≡ number_of w = cc in ap Err (number-one v w k)
+
 -- ---- the verdicts
 pub verdict-one : (v w : Verdict) → verdict_number v ≡ verdict_number w → v ≡ w
-verdict-one Accepted Accepted e = refl
-verdict-one Accepted (Refused b) e = absurd (number-some b (sym e))
-verdict-one (Refused a) Accepted e = absurd (number-some a e)
-verdict-one (Refused a) (Refused b) e = ap Refused (number-one a b e)
+verdict-one (Ok _) (Ok _) e = refl
+verdict-one (Ok _) (Err b) e = absurd (number-some b (sym e))
+verdict-one (Err a) (Ok _) e = absurd (number-some a e)
+verdict-one (Err a) (Err b) e = ap fail (number-one a b e)
 
 pub outcome-one : (o : Outcome) (v w : Verdict) (a b : List ℕ) → leaves (verdict_number v) a ≡ o → leaves (verdict_number w) b ≡ o → (v ≡ w) × (a ≡ b)
 outcome-one o v w a b p q =

@@ -6,9 +6,8 @@ use mathlib.Core.List.{List}
 use Prim.Native.Nat.{ℕ, ◌+◌, ◌*◌, ◌%◌, ◌≤◌}
 use borrow.Author.Tests.{eq-eqb}
 use Rattle.layout.specs.declared.refusal.Refusal.{Refusal}
-use Rattle.layout.specs.declared.refusal.Verdict.{Verdict}
 use Rattle.layout.specs.Layout.{word_size, header_size, used_field, area_serial_field, magic_field, magic_size, version_field, reserved_field, data_size, touch}
-use Rattle.layout.specs.Refusals.{number_of, verdict_number, Outcome, leaves}
+use Rattle.layout.specs.Refusals.{Verdict, number_of, verdict_number, Outcome, leaves}
 use Rattle.layout.proofs.Laws.{touch-lies}
 use Rattle.layout.proofs.Laws as laws
 use Rattle.layout.proofs.Numbers as numbers

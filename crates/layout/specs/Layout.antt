@@ -1,9 +1,8 @@
 -- Layout (RULES 2; touching 3.2): the one place of sizes, offsets and limits; touching; the words of records; text up to its zero.
-use Rattle.std.specs.Prelude.{ℕ, ◌+◌, ◌-◌, ◌%◌, ◌≤◌, Bool, cond, ◌&&◌, List, [], ◌∷◌, length, eqb, leb}
+use Rattle.std.specs.Prelude.{ℕ, ◌+◌, ◌-◌, ◌%◌, ◌≤◌, Bool, cond, ◌&&◌, List, [], ◌∷◌, length, eqb, leb, Option, Some, None}
 use Rattle.words.specs.Words.{little_at, round_up4, first_in}
 use Rattle.layout.specs.Refusals.{guard}
 use Rattle.layout.specs.declared.text.Span.{Span}
-use Rattle.layout.specs.declared.text.Span.TheVariants.{Bytes, Broken}
 
 -- ---- numbers are little-endian u32
 abbrev pub word_size : ℕ
@@ -155,9 +154,12 @@ EntryIn area at = Within area entry_size at
 abbrev pub entry_ok : List ℕ → ℕ → Bool
 entry_ok area at = touch area entry_size at
 
--- ---- text from a place on: to the first zero within some bytes; none there, or bytes past the area: broken
-abbrev pub text_to : ℕ → ℕ → ℕ → Span
-text_to from to end = cond (eqb to end) Broken (Bytes from to)
+-- ---- text from a place on: to the first zero within some bytes; none there, or bytes past the area: no text
+abbrev pub span_at : ℕ → ℕ → Option Span
+span_at from to = Some (record { from = from; to = to })
 
-unfoldable pub text_in : List ℕ → ℕ → ℕ → Span
-text_in area from size = guard (leb (from + size) (length area)) Broken (text_to from (first_in 0 area from size) (from + size))
+abbrev pub text_to : ℕ → ℕ → ℕ → Option Span
+text_to from to end = cond (eqb to end) None (span_at from to)
+
+unfoldable pub text_in : List ℕ → ℕ → ℕ → Option Span
+text_in area from size = guard (leb (from + size) (length area)) None (text_to from (first_in 0 area from size) (from + size))

@@ -1,6 +1,5 @@
 -- Numbers of refusal (RULES 9), and what a call answers with.
-use Rattle.std.specs.Prelude.{ℕ, Bool, cond, List}
-use Rattle.layout.specs.declared.refusal.Verdict.{Verdict}
+use Rattle.std.specs.Prelude.{ℕ, Bool, cond, List, Result, Ok, Err, ⊤}
 use Rattle.layout.specs.declared.refusal.Refusal.{Refusal}
 
 abbrev pub number_of : Refusal → ℕ
@@ -23,6 +22,11 @@ pub data Answer (A : Type 0) : Type 0 where
 abbrev pub refuse : {A : Type 0} → Refusal → Answer A
 refuse why = refused (number_of why)
 
+-- what a call's result says: the value as it is to be read, or the refusal
+abbrev pub answered : {A B : Type 0} → (A → B) → Result A Refusal → Answer B
+answered f (Ok a) = accepted (f a)
+answered f (Err why) = refuse why
+
 -- what was accepted, made into something else; a refusal stays
 abbrev pub on_accepted : {A B : Type 0} → (A → B) → Answer A → Answer B
 on_accepted f (accepted a) = accepted (f a)
@@ -32,13 +36,22 @@ on_accepted f (refused number) = refused number
 abbrev pub guard : {A : Type 0} → Bool → A → A → A
 guard holds refusing on = cond holds on refusing
 
--- a call that answers with a number alone gives 0 for accepted
+-- a call that has no other result gives a verdict; as a number alone, 0 for accepted
+abbrev pub Verdict : Type 0
+Verdict = Result ⊤ Refusal
+
+abbrev pub pass : Verdict
+pass = Ok tt
+
+abbrev pub fail : Refusal → Verdict
+fail why = Err why
+
 abbrev pub no_refusal : ℕ
 no_refusal = 0
 
 abbrev pub verdict_number : Verdict → ℕ
-verdict_number Verdict.Accepted = no_refusal
-verdict_number (Verdict.Refused why) = number_of why
+verdict_number (Ok done) = no_refusal
+verdict_number (Err why) = number_of why
 
 -- that number, and the lent bytes afterwards
 pub data Outcome : Type 0 where
@@ -58,5 +71,5 @@ refuse_leaving bytes why = leaves (number_of why) bytes
 
 -- a test that a call makes: it goes on, or refuses
 abbrev pub by_verdict : {A : Type 0} → Verdict → (Refusal → A) → A → A
-by_verdict Verdict.Accepted refusing on = on
-by_verdict (Verdict.Refused why) refusing on = refusing why
+by_verdict (Ok done) refusing on = on
+by_verdict (Err why) refusing on = refusing why

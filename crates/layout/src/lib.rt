@@ -25,5 +25,5 @@ mod refusal;
 mod text;
 
 pub use records::{Backup, Entry, Header, Node, data_size};
-pub use refusal::{Refusal, Verdict};
+pub use refusal::{Refusal, verdict_number};
 pub use text::{Span, cstr_in};

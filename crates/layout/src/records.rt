@@ -1,7 +1,10 @@
 // The records of an area: their sizes and field offsets, touching, and a read of each field.
-ghost use Rattle.std.specs.Prelude.{◌≡◌, ◌+◌};
+ghost use Rattle.std.specs.Prelude.{◌≡◌, ◌+◌, is_ok, IfOk, IfErr};
+ghost use Rattle.layout.specs.declared.refusal.Refusal.{Refusal};
 ghost use Rattle.layout.specs.Layout.{data_size, Within, NodeIn, EntryIn, touch, node_ok, entry_ok, word_at};
 ghost use Rattle.layout.specs.Layout.{namelen_field, prop_field, left_field, right_field, children_field, serial_field, long_offset_field};
+
+use crate::refusal::Refusal;
 
 // The first bytes of an area.
 #[derive(Clone, Copy)]
@@ -47,13 +50,15 @@ impl Backup {
     pub const END: usize = Backup::AT + Backup::SIZE;
 }
 
-// A node, by its offset.
+// A node that lies in an area, by its offset.
 #[derive(Clone, Copy)]
-pub struct Node {
+pub struct Node<'a> {
+    pub area: &'a [u8],
     pub at: usize,
+    ghost inside: { NodeIn area.now at },
 }
 
-impl Node {
+impl<'a> Node<'a> {
     // The root's offset: it stands first.
     pub const ROOT: usize = 0;
 
@@ -69,56 +74,60 @@ impl Node {
 
     pub const CHILDREN: usize = 16;
 
-    // Whether the node lies within the area, at a multiple of 4.
-    pub fn touched(self, area: &[u8]) -> bool
-        ensures { result ≡ node_ok area.now self.at }
+    // The node at an offset, touched: damage, unless it lies within the area, at a multiple of 4.
+    #[tactic(auto, unfolding(crate::specs::Layout::touch))]
+    pub fn touch(area: &'a [u8], at: usize) -> Result<Node<'a>, Refusal>
+        ensures says { is_ok result ≡ node_ok area.now at }
+        ensures there { IfOk result (λ node. (node.area ≡ area.entry) × (node.at ≡ at)) }
+        ensures damage { IfErr result (λ why. why ≡ Refusal.Damaged) }
     {
-        lies(area, self.at, Node::SIZE)
+        if !lies(area, at, Node::SIZE) {
+            return Err(Refusal::Damaged);
+        }
+        Ok(Node { area, at })
     }
 
-    pub fn namelen(self, area: &[u8]) -> u32
-        requires { NodeIn area.now self.at }
-        ensures { result ≡ word_at area.now self.at namelen_field }
+    // A read of one line for each field: with the field as a parameter the clause would not name it.
+    pub fn namelen(self) -> u32
+        ensures { result ≡ word_at self.entry.area.now self.entry.at namelen_field }
     {
-        field(area, self.at, Node::NAMELEN)
+        field(self.area, self.at, Node::NAMELEN)
     }
 
-    pub fn prop(self, area: &[u8]) -> u32
-        requires { NodeIn area.now self.at }
-        ensures { result ≡ word_at area.now self.at prop_field }
+    pub fn prop(self) -> u32
+        ensures { result ≡ word_at self.entry.area.now self.entry.at prop_field }
     {
-        field(area, self.at, Node::PROP)
+        field(self.area, self.at, Node::PROP)
     }
 
-    pub fn left(self, area: &[u8]) -> u32
-        requires { NodeIn area.now self.at }
-        ensures { result ≡ word_at area.now self.at left_field }
+    pub fn left(self) -> u32
+        ensures { result ≡ word_at self.entry.area.now self.entry.at left_field }
     {
-        field(area, self.at, Node::LEFT)
+        field(self.area, self.at, Node::LEFT)
     }
 
-    pub fn right(self, area: &[u8]) -> u32
-        requires { NodeIn area.now self.at }
-        ensures { result ≡ word_at area.now self.at right_field }
+    pub fn right(self) -> u32
+        ensures { result ≡ word_at self.entry.area.now self.entry.at right_field }
     {
-        field(area, self.at, Node::RIGHT)
+        field(self.area, self.at, Node::RIGHT)
     }
 
-    pub fn children(self, area: &[u8]) -> u32
-        requires { NodeIn area.now self.at }
-        ensures { result ≡ word_at area.now self.at children_field }
+    pub fn children(self) -> u32
+        ensures { result ≡ word_at self.entry.area.now self.entry.at children_field }
     {
-        field(area, self.at, Node::CHILDREN)
+        field(self.area, self.at, Node::CHILDREN)
     }
 }
 
-// An entry, by its offset.
+// An entry that lies in an area, by its offset.
 #[derive(Clone, Copy)]
-pub struct Entry {
+pub struct Entry<'a> {
+    pub area: &'a [u8],
     pub at: usize,
+    ghost inside: { EntryIn area.now at },
 }
 
-impl Entry {
+impl<'a> Entry<'a> {
     pub const SIZE: usize = 96;
 
     pub const SERIAL: usize = 0;
@@ -136,25 +145,29 @@ impl Entry {
 
     pub const LONG_OFFSET: usize = Entry::MESSAGE + Entry::MESSAGE_SIZE;
 
-    // Whether the entry lies within the area, at a multiple of 4.
-    pub fn touched(self, area: &[u8]) -> bool
-        ensures { result ≡ entry_ok area.now self.at }
+    // The entry at an offset, touched as a node is (a trait for the two would be longer than both): damage, unless it lies within the area, at a multiple of 4.
+    #[tactic(auto, unfolding(crate::specs::Layout::touch))]
+    pub fn touch(area: &'a [u8], at: usize) -> Result<Entry<'a>, Refusal>
+        ensures says { is_ok result ≡ entry_ok area.now at }
+        ensures there { IfOk result (λ entry. (entry.area ≡ area.entry) × (entry.at ≡ at)) }
+        ensures damage { IfErr result (λ why. why ≡ Refusal.Damaged) }
     {
-        lies(area, self.at, Entry::SIZE)
+        if !lies(area, at, Entry::SIZE) {
+            return Err(Refusal::Damaged);
+        }
+        Ok(Entry { area, at })
     }
 
-    pub fn serial(self, area: &[u8]) -> u32
-        requires { EntryIn area.now self.at }
-        ensures { result ≡ word_at area.now self.at serial_field }
+    pub fn serial(self) -> u32
+        ensures { result ≡ word_at self.entry.area.now self.entry.at serial_field }
     {
-        field(area, self.at, Entry::SERIAL)
+        field(self.area, self.at, Entry::SERIAL)
     }
 
-    pub fn long_offset(self, area: &[u8]) -> u32
-        requires { EntryIn area.now self.at }
-        ensures { result ≡ word_at area.now self.at long_offset_field }
+    pub fn long_offset(self) -> u32
+        ensures { result ≡ word_at self.entry.area.now self.entry.at long_offset_field }
     {
-        field(area, self.at, Entry::LONG_OFFSET)
+        field(self.area, self.at, Entry::LONG_OFFSET)
     }
 }
 
@@ -162,13 +175,11 @@ impl Entry {
 pub fn data_size(area: &[u8]) -> usize
     ensures { result ≡ data_size area.now }
 {
-    if area.len() < Header::SIZE {
-        return 0;
-    }
-    area.len() - Header::SIZE
+    area.len().saturating_sub(Header::SIZE)
 }
 
 // Whether an object of some size lies within the area, at a multiple of 4.
+#[tactic(auto, unfolding(crate::specs::Layout::touch))]
 fn lies(area: &[u8], at: usize, size: usize) -> bool
     ensures { result ≡ touch area.now size at }
 {

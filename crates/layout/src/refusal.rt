@@ -2,63 +2,44 @@
 ghost use Rattle.std.specs.Prelude.{◌≡◌};
 ghost use Rattle.layout.specs.Refusals.{number_of, verdict_number};
 
-#[derive(Clone, Copy)]
+#[derive(Clone, Copy, PartialEq, Eq)]
 pub enum Refusal {
     // A zero byte in an added name.
-    ZeroByte,
+    ZeroByte = 1,
     // A name with an empty segment.
-    EmptySegment,
+    EmptySegment = 2,
     // No such name.
-    Missing,
+    Missing = 3,
     // No room left in the area.
-    NoRoom,
+    NoRoom = 4,
     // The area's bytes are no area's.
-    Damaged,
+    Damaged = 5,
     // A value, or a backup, that no slot holds.
-    TooLong,
+    TooLong = 6,
     // An entry whose long value is not updated.
-    LongEntry,
+    LongEntry = 7,
     // A length, magic or version that is no area's.
-    BadHeader,
+    BadHeader = 8,
     // A size over 32 bits.
-    TooLarge,
+    TooLarge = 9,
     // Scratch, or a list of offsets, too short.
-    ShortBuffer,
+    ShortBuffer = 10,
 }
 
 impl Refusal {
     pub fn number(self) -> u32
         ensures { result ≡ number_of self }
     {
-        match self {
-            Refusal::ZeroByte => 1,
-            Refusal::EmptySegment => 2,
-            Refusal::Missing => 3,
-            Refusal::NoRoom => 4,
-            Refusal::Damaged => 5,
-            Refusal::TooLong => 6,
-            Refusal::LongEntry => 7,
-            Refusal::BadHeader => 8,
-            Refusal::TooLarge => 9,
-            Refusal::ShortBuffer => 10,
-        }
+        self as u32
     }
 }
 
-// The answer of a call that has no other result.
-#[derive(Clone, Copy)]
-pub enum Verdict {
-    Accepted,
-    Refused(Refusal),
-}
-
-impl Verdict {
-    pub fn number(self) -> u32
-        ensures { result ≡ verdict_number self }
-    {
-        match self {
-            Verdict::Accepted => 0,
-            Verdict::Refused(why) => why.number(),
-        }
+// The number of a verdict, the answer of a call that has no other result: 0 where it accepts.
+pub fn verdict_number(verdict: Result<(), Refusal>) -> u32
+    ensures { result ≡ verdict_number verdict }
+{
+    match verdict {
+        Ok(()) => 0,
+        Err(why) => why.number(),
     }
 }

@@ -3,27 +3,27 @@ ghost use Rattle.std.specs.Prelude.{◌≡◌};
 ghost use Rattle.layout.specs.Layout.{text_in};
 
 // Where a text stands in the area, without its zero.
-#[derive(Clone, Copy)]
-pub enum Span {
-    Bytes { from: usize, to: usize },
-    // It runs past the area, or has no zero.
-    Broken,
+#[derive(Clone, Copy, PartialEq, Eq)]
+pub struct Span {
+    pub from: usize,
+    pub to: usize,
 }
 
-// The text up to the first zero within some bytes, all of which lie in the area.
-pub fn cstr_in(area: &[u8], from: usize, size: usize) -> Span
+// The text up to the first zero within some bytes, all of which lie in the area; none where it runs past the area, or has no zero.
+#[tactic(auto, unfolding(crate::specs::Layout::text_in))]
+pub fn cstr_in(area: &[u8], from: usize, size: usize) -> Option<Span>
     ensures { result ≡ text_in area.now from size }
 {
     if area.len() < from {
-        return Span::Broken;
+        return None;
     }
     if area.len() - from < size {
-        return Span::Broken;
+        return None;
     }
     let end = from + size;
     let to = words::first(area, 0, from, end);
     if to == end {
-        return Span::Broken;
+        return None;
     }
-    Span::Bytes { from, to }
+    Some(Span { from, to })
 }

@@ -3,26 +3,30 @@
 #![tactic(auto)]
 
 use std::fs;
-use streams::print;
 
-fn show(rt: &HostRuntime, file: &[u8], names: &str) {
-    print(rt, b"-- ");
-    print(rt, file);
-    print(rt, b" ");
-    print(rt, names.as_bytes());
-    print(rt, b"\n");
+// An area's file, and the file of the names that are looked up in it.
+const CASES: [(&str, &str); 7] = [
+    ("settled.area", "long.names"),
+    ("settled.area", "none.names"),
+    ("large.area", "large.names"),
+    ("missing.area", "missing.names"),
+    (".", "missing.names"),
+    ("settled.area", "."),
+    ("damaged.area", "damaged.names"),
+];
+
+fn show(rt: &HostRuntime, file: &str, names: &str) {
+    let _ = println!(rt; "-- {file} {names}");
     match fs::open(rt, names) {
-        Ok(mut input) => programs::lookup_file(rt, file, &mut input),
-        Err(_) => print(rt, b"no input\n"),
+        Ok(mut input) => programs::lookup_file(rt, file.as_bytes(), &mut input),
+        Err(_) => {
+            let _ = println!(rt; "no input");
+        }
     }
 }
 
 fn main(rt: HostRuntime) {
-    show(&rt, b"settled.area", "long.names");
-    show(&rt, b"settled.area", "none.names");
-    show(&rt, b"large.area", "large.names");
-    show(&rt, b"missing.area", "missing.names");
-    show(&rt, b".", "missing.names");
-    show(&rt, b"settled.area", ".");
-    show(&rt, b"damaged.area", "damaged.names");
+    for (file, names) in CASES {
+        show(&rt, file, names);
+    }
 }

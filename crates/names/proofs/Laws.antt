@@ -1,5 +1,8 @@
--- Laws of specs/Names.antt: a turn of the comparison, and the cursor's step against the segments of the whole name.
-use mathlib.Core.Path.{◌≡◌, sym, ap, ◌∙◌}
+-- Laws of specs/Names.antt: the comparison of slices, and the cursor's step against the segments of the whole name.
+use mathlib.Core.Path.{◌≡◌, refl, sym, ap, ◌∙◌}
+use Rattle.std.specs.Ordering.{nat_cmp, ordering_then, MatchOrdering}
+use Rattle.std.specs.Cmp.{ranks, ranked}
+use Rattle.std.specs.Cmp.Lexicographic.{slice_cmp}
 use mathlib.Core.Bool.{cond}
 use mathlib.Core.List.{List, [], ◌∷◌}
 use Prim.Native.Nat.{ℕ, zero, suc, ◌+◌, ◌-◌, ◌≤◌, ◌<◌, zero-le}
@@ -12,10 +15,30 @@ use lib.Seq.{drop-cons, take-nil}
 use lib.Dec.{eqb, ltb, leb}
 use Rattle.words.specs.Words.{first_in, part}
 use Rattle.words.proofs.Laws.{bool_cases, clash, first-low, first-high}
-use Rattle.names.specs.declared.Order.TheVariants.{Less, Equal, Greater}
+use Rattle.std.specs.declared.cmp.Ordering.{Ordering}
+use Rattle.std.specs.declared.cmp.Ordering.TheVariants.{Less, Equal, Greater}
 use Rattle.names.specs.declared.NameCursor.{NameCursor}
-use Rattle.names.specs.declared.NameStep.TheVariants.{Segment, Done}
-use Rattle.names.specs.Names.{dot, segments, segment_to, step_from, byte_order}
+use Rattle.std.specs.Prelude.{Option, Some, None}
+use Rattle.names.specs.declared.Segment.{Segment}
+use Rattle.names.specs.Names.{dot, segments, segment_to, step_from, byte_order, segment_order}
+
+-- ---- what a comparison of two numbers decides, and what comes after it
+after-numbers : (x y : ℕ) (o p q : Ordering) → MatchOrdering o (x < y) (x ≡ y) (y < x) → p ≡ q → ordering_then o p ≡ cond (ltb x y) Less (cond (ltb y x) Greater q)
+after-numbers x y Less p q h e = rw (lt-ltb x y h)
+after-numbers x y Equal p q h e = rw (le-ltb x y (omega arith), le-ltb y x (omega arith)) e
+after-numbers x y Greater p q h e = rw (le-ltb x y (omega arith), lt-ltb y x h)
+
+-- slices of equal length compare byte by byte
+order-bytes : (a b : List ℕ) → length a ≡ length b → slice_cmp nat_cmp a b ≡ byte_order a b
+unfolding byte_order
+order-bytes [] [] e = refl
+order-bytes [] (y ∷ ys) e = absurd (omega arith)
+order-bytes (x ∷ xs) [] e = absurd (omega arith)
+order-bytes (x ∷ xs) (y ∷ ys) e = after-numbers x y (nat_cmp x y) _ _ (ranks x y) (order-bytes xs ys (omega arith))
+
+pub order_even : (a b : List ℕ) → Equal ≡ nat_cmp (length a) (length b) → slice_cmp nat_cmp a b ≡ segment_order a b
+unfolding segment_order
+order_even a b e = after-numbers (length a) (length b) Equal _ _ (ranked _ _ Equal e) (order-bytes a b (ranked _ _ Equal e))
 
 -- ---- a turn of the comparison, at an index of both
 module _ (a b : List ℕ) (i : ℕ) (ha : i < length a) (hb : i < length b) where
@@ -58,12 +81,12 @@ segments-step (suc k) name at h =
     rw (e, t, f, ih))
 
 -- ---- what a step says to a caller: no segment is left
-pub step-done : (name : List ℕ) (at : ℕ) → step_from name at ≡ Done → segments_from name at ≡ []
+pub step-done : (name : List ℕ) (at : ℕ) → step_from name at ≡ None → segments_from name at ≡ []
 unfolding step_from segments_from
 step-done name at h =
     bool_cases (ltb (length name) at)
     (λ e. rw (lt-leb at (length name) (ltb-true _ _ e)))
-    (λ e. let k : segment_to at (first_in dot name at (length name - at)) ≡ Done = rw e at h in
+    (λ e. let k : segment_to at (first_in dot name at (length name - at)) ≡ None = rw e at h in
     clash cc)
 
 -- or the next one, where it lies, and that the cursor moves on
@@ -75,19 +98,19 @@ pub record Stepped (name : List ℕ) (at from to : ℕ) (next : NameCursor) : Ty
   pub behind : next.at ≡ to + 1
   pub parts : segments_from name at ≡ part name from to ∷ segments_from name next.at
 
-pub step-segment : (name : List ℕ) (at from to : ℕ) (next : NameCursor) → step_from name at ≡ Segment from to next → Stepped name at from to next
+pub step-segment : (name : List ℕ) (at from to : ℕ) (next : NameCursor) → step_from name at ≡ Some (record { from = from; to = to; next = next }) → Stepped name at from to next
 unfolding step_from segments_from
 step-segment name at from to next h =
     bool_cases (ltb (length name) at)
-    (λ e. let k : Done ≡ Segment from to next = rw e at h in clash cc)
+    (λ e. let k : ◌≡◌ {A = Option Segment} None (Some (record { from = from; to = to; next = next })) = rw e at h in clash cc)
     (λ e.
     let z = first_in dot name at (length name - at) in
-    let k : segment_to at z ≡ Segment from to next = rw e at h in
+    let k : segment_to at z ≡ Some (record { from = from; to = to; next = next }) = rw e at h in
     let b : at ≤ length name = ltb-false _ _ e in
-    let p : at ≡ from = cc in
-    let q : z ≡ to = cc in
-    let r : record { at = z + 1 } ≡ next = cc in
-    let s : next.at ≡ z + 1 = sym (ap (λ (n : NameCursor). n.at) r) in
+    let r : ◌≡◌ {A = Segment} (record { from = at; to = z; next = record { at = z + 1 } }) (record { from = from; to = to; next = next }) = cc in
+    let p : at ≡ from = ap (λ (g : Segment). g.from) r in
+    let q : z ≡ to = ap (λ (g : Segment). g.to) r in
+    let s : next.at ≡ z + 1 = sym (ap (λ (g : Segment). g.next.at) r) in
     record {
       more = b;
       begins = sym p;

@@ -8,19 +8,19 @@ use borrow.Author.Tests.{lt-ltb, le-ltb, ltb-true, ltb-false}
 use lib.Dec.{ltb}
 use lib.ListN.{length}
 use Rattle.words.proofs.Laws.{bool_cases, clash}
-use Rattle.names.specs.declared.Order.{Order}
-use Rattle.names.specs.declared.Order.TheVariants.{Less, Equal, Greater}
+use Rattle.std.specs.declared.cmp.Ordering.{Ordering}
+use Rattle.std.specs.declared.cmp.Ordering.TheVariants.{Less, Equal, Greater}
 use Rattle.names.specs.Names.{byte_order, segment_order}
 
 -- two numbers decide, or what comes after them: so byte_order and segment_order are made
-abbrev decided : ℕ → ℕ → Order → Order
+abbrev decided : ℕ → ℕ → Ordering → Ordering
 decided m n rest = cond (ltb m n) Less (cond (ltb n m) Greater rest)
 
-data Lower (m n : ℕ) (rest : Order) : Type 0 where
+data Lower (m n : ℕ) (rest : Ordering) : Type 0 where
   below : m < n → Lower m n rest
   tied : m ≡ n → rest ≡ Less → Lower m n rest
 
-lower_of : (m n : ℕ) (rest : Order) → decided m n rest ≡ Less → Lower m n rest
+lower_of : (m n : ℕ) (rest : Ordering) → decided m n rest ≡ Less → Lower m n rest
 lower_of m n rest h =
     bool_cases (ltb m n)
     (λ t. below (ltb-true m n t))
@@ -28,17 +28,17 @@ lower_of m n rest h =
     (λ u. let k : Greater ≡ Less = rw (t, u) at h in clash cc)
     (λ u. tied (omega (arith, ltb-false m n t, ltb-false n m u)) (rw (t, u) at h)))
 
-of-lower : (m n : ℕ) (rest : Order) → Lower m n rest → decided m n rest ≡ Less
+of-lower : (m n : ℕ) (rest : Ordering) → Lower m n rest → decided m n rest ≡ Less
 of-lower m n rest (below h) = rw (lt-ltb m n h)
 of-lower m n rest (tied h e) = rw (le-ltb m n (omega arith), le-ltb n m (omega arith)) e
 
-lower-trans : (l m n : ℕ) (p q r : Order) → (p ≡ Less → q ≡ Less → r ≡ Less) → Lower l m p → Lower m n q → Lower l n r
+lower-trans : (l m n : ℕ) (p q r : Ordering) → (p ≡ Less → q ≡ Less → r ≡ Less) → Lower l m p → Lower m n q → Lower l n r
 lower-trans l m n p q r f (below h) (below k) = below (omega arith)
 lower-trans l m n p q r f (below h) (tied k e) = below (omega arith)
 lower-trans l m n p q r f (tied h d) (below k) = below (omega arith)
 lower-trans l m n p q r f (tied h d) (tied k e) = tied (omega arith) (f d e)
 
-decided-trans : (l m n : ℕ) (p q r : Order) → (p ≡ Less → q ≡ Less → r ≡ Less) → decided l m p ≡ Less → decided m n q ≡ Less → decided l n r ≡ Less
+decided-trans : (l m n : ℕ) (p q r : Ordering) → (p ≡ Less → q ≡ Less → r ≡ Less) → decided l m p ≡ Less → decided m n q ≡ Less → decided l n r ≡ Less
 decided-trans l m n p q r f h k = of-lower l n r (lower-trans l m n p q r f (lower_of l m p h) (lower_of m n q k))
 
 byte-trans : (a b c : List ℕ) → byte_order a b ≡ Less → byte_order b c ≡ Less → byte_order a c ≡ Less
@@ -54,12 +54,12 @@ order_trans a b c h k =
     decided-trans (length a) (length b) (length c) (byte_order a b) (byte_order b c) (byte_order a c) (byte-trans a b c) h k
 
 -- ---- turned round
-abbrev flipped : Order → Order
+abbrev flipped : Ordering → Ordering
 flipped Less = Greater
 flipped Equal = Equal
 flipped Greater = Less
 
-decided-flip : (m n : ℕ) (p q : Order) → q ≡ flipped p → decided n m q ≡ flipped (decided m n p)
+decided-flip : (m n : ℕ) (p q : Ordering) → q ≡ flipped p → decided n m q ≡ flipped (decided m n p)
 decided-flip m n p q e =
     bool_cases (ltb m n)
     (λ t. rw (t, le-ltb n m (omega (arith, ltb-true m n t))))

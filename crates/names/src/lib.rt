@@ -4,22 +4,20 @@
 ghost use Rattle.std.specs.Prelude.{◌≡◌};
 ghost use Rattle.names.specs.Names.{step_from, segment_order};
 
+use std::cmp::Ordering;
+
 // A place in a dotted name: where the next segment begins. Past the name's end there is none.
 #[derive(Clone, Copy)]
 pub struct NameCursor {
     pub at: usize,
 }
 
-// What a step of the cursor hands back.
+// What a step of the cursor hands back: the segment's bounds, and the cursor behind it.
 #[derive(Clone, Copy)]
-pub enum NameStep {
-    // The segment's bounds, and the cursor behind it.
-    Segment {
-        from: usize,
-        to: usize,
-        next: NameCursor,
-    },
-    Done,
+pub struct Segment {
+    pub from: usize,
+    pub to: usize,
+    pub next: NameCursor,
 }
 
 impl NameCursor {
@@ -31,48 +29,30 @@ impl NameCursor {
     }
 
     // The segment up to the next dot or the name's end. Every name has one at least, maybe empty; so has what follows a dot.
-    pub fn step(self, name: &[u8]) -> NameStep
+    #[tactic(auto, unfolding(crate::specs::Names::step_from))]
+    pub fn step(self, name: &[u8]) -> Option<Segment>
         ensures { result ≡ step_from name.now self.at }
     {
         let at = self.at;
         if name.len() < at {
-            return NameStep::Done;
+            return None;
         }
         let to = words::first(name, b'.', at, name.len());
-        NameStep::Segment {
+        Some(Segment {
             from: at,
             to,
             next: NameCursor { at: to + 1 },
-        }
+        })
     }
-}
-
-#[derive(Clone, Copy)]
-pub enum Order {
-    Less,
-    Equal,
-    Greater,
 }
 
 // Compares two segments: the shorter is less, and equal lengths compare byte by byte.
-pub fn cmp_prop_name(a: &[u8], b: &[u8]) -> Order
+#[tactic(auto, using(crate::proofs::Laws::order_even), unfolding(crate::specs::Names::segment_order))]
+pub fn cmp_prop_name(a: &[u8], b: &[u8]) -> Ordering
     ensures { result ≡ segment_order a.now b.now }
 {
-    if a.len() < b.len() {
-        return Order::Less;
+    match a.len().cmp(&b.len()) {
+        Ordering::Equal => a.cmp(b),
+        unequal => unequal,
     }
-    if b.len() < a.len() {
-        return Order::Greater;
-    }
-    let mut i = 0;
-    while i < a.len() {
-        if a[i] < b[i] {
-            return Order::Less;
-        }
-        if b[i] < a[i] {
-            return Order::Greater;
-        }
-        i += 1;
-    }
-    Order::Equal
 }

@@ -1,5 +1,5 @@
 -- Add (RULES 5.3), the nodes: the walk of find, laying down each missing node and linking it at once.
-use Rattle.std.specs.Prelude.{ℕ, ◌+◌, cond, List, [], ◌∷◌, length, eqb}
+use Rattle.std.specs.Prelude.{ℕ, ◌+◌, cond, List, [], ◌∷◌, length, eqb, Result, Ok, Err}
 use Rattle.words.specs.Stores.{Store, run, word_store, text_stores}
 use Rattle.layout.specs.declared.refusal.Refusal.{Refusal}
 use Rattle.layout.specs.Refusals.{guard}
@@ -30,10 +30,10 @@ unfoldable pub hang_node : List ℕ → ℕ → List ℕ → Step
 hang_node area link name = and_then (new_node area name) (λ at laid. link_to laid link at)
 
 -- the search over left and right; a missing node is laid down
-abbrev pub or_hang : List ℕ → List ℕ → Searched → Step
-or_hang area segment (Searched.Named node compared) = goes node area []
-or_hang area segment (Searched.Absent link compared) = hang_node area link segment
-or_hang area segment (Searched.Refused why) = stop_by area why
+abbrev pub or_hang : List ℕ → List ℕ → Result Searched Refusal → Step
+or_hang area segment (Ok (Searched.Named node compared)) = goes node area []
+or_hang area segment (Ok (Searched.Absent link compared)) = hang_node area link segment
+or_hang area segment (Err why) = stop_by area why
 
 unfoldable pub add_node : List ℕ → List ℕ → ℕ → Step
 add_node area segment first = or_hang area segment (search_from area segment (nodes_max area) first 0)

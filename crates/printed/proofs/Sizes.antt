@@ -10,8 +10,8 @@ use lib.ListN.{length, length-append}
 use Rattle.words.specs.Words.{part}
 use Rattle.words.proofs.Laws.{bool_cases, part_length}
 use Rattle.layout.specs.Refusals.{Answer, accepted, refused, on_accepted}
-use Rattle.property_area.specs.declared.values.AreaPart.{AreaPart}
 use Rattle.trie.specs.Header.{header_ok}
+use Rattle.property_area.proofs.ValueLaws.{part_at}
 use Rattle.property_area.specs.Value.{Part, bytes, part_bytes}
 use Rattle.texts.specs.Text.{escaped, digits_max, decimal}
 use Rattle.texts.proofs.Promises.{escaped-few, decimal-few}
@@ -34,5 +34,5 @@ answer-small area name =
     by : length area ≤ file_max → (answer : Answer Part) → answer ≡ ask_steps area name → length (answer_line (on_accepted (part_bytes area) answer)) ≤ text_max
     by few (refused number) e = refused-small number
     by few (accepted (bytes from to)) e =
-        let lies = ask_in area name (AreaPart.Bytes from to) e from to refl in
+        let lies = ask_in area name (part_at from to) e from to refl in
         omega (arith, length-append (escaped (part area from to)) ending, escaped-few (part area from to), part_length area from to lies.low lies.high, lies.high)

@@ -1,48 +1,26 @@
--- Laws of the marks: a turn of a loop that asks a test of every place, words taken or not, a number stored.
-use Prim.Native.Nat.{ℕ, suc, ◌+◌, ◌-◌, ◌/◌, ◌%◌, ◌≤◌, ◌<◌}
-use mathlib.Core.Path.{◌≡◌}
-use mathlib.Core.Bool.{Bool, true, false}
+-- Laws of the marks: a test of each byte of a part, a number stored.
+use Prim.Native.Nat.{ℕ, zero, suc, ◌+◌, ◌-◌, ◌/◌, ◌%◌, ◌≤◌}
+use mathlib.Core.Path.{◌≡◌, refl, ap}
+use mathlib.Core.Bool.{Bool, ◌&&◌}
 use mathlib.Core.List.{List}
-use native.Mathlib.Nat.{add_assoc, add-zero, sub-zero}
+use native.Mathlib.Nat.{add_assoc}
 use native.Mathlib.Omega.{arith}
-use borrow.Author.Tests.{le-leb, lt-leb}
-use lib.ListN.{length, set}
+use lib.ListN.{length, get_or, set, take, drop}
+use Rattle.std.specs.List.{list_all, slice_range}
+use Rattle.std.proofs.lemmas.List.{drop_more}
 use Rattle.words.specs.Words.{put}
-use Rattle.walk.specs.Marks.{all, is_zero, can_take, base, write}
+use Rattle.walk.specs.Marks.{all, base, write}
 
--- ---- a test of every place, after i of k places from one on
-module _ (test : ℕ → Bool) (from k : ℕ) where
-  pub all-begins : all test from k ≡ all test (from + 0) (k - 0)
-  all-begins = rw (add-zero, sub-zero)
+-- ---- a test of each byte of a part, by its place
+pub all_part : (test : ℕ → Bool) (s : List ℕ) (k from : ℕ) → from + k ≤ length s → list_all test (take k (drop from s)) ≡ all (λ i. test (get_or s i 0)) from k
+unfolding all
+all_part test s zero from h = refl
+all_part test s (suc k) from h = rw (drop_more s from 0 (omega arith)) (ap (λ b. test (get_or s from 0) && b) (all_part test s k (from + 1) (omega arith)))
 
-  module _ (i : ℕ) where
-    pub all-not : i < k → test (from + i) ≡ false → all test (from + i) (k - i) ≡ false
-    unfolding all
-    all-not h t =
-        let e : k - i ≡ suc (k - (i + 1)) = omega arith in
-        rw (e, t)
-
-    pub all-on : i < k → test (from + i) ≡ true → all test (from + i) (k - i) ≡ all test (from + (i + 1)) (k - (i + 1))
-    unfolding all
-    all-on h t =
-        let e : k - i ≡ suc (k - (i + 1)) = omega arith in
-        rw (e, t, add_assoc)
-
-    pub all_end : k ≤ i → all test (from + i) (k - i) ≡ true
-    unfolding all
-    all_end h =
-        let e : k - i ≡ 0 = omega arith in
-        rw e
-
--- ---- words taken, or not
-module _ (marks : List ℕ) (n k : ℕ) where
-  pub take_past : length marks < n + k → false ≡ can_take marks n k
-  unfolding can_take
-  take_past h = rw (lt-leb (n + k) (length marks) h)
-
-  pub take-free : n + k ≤ length marks → (free : Bool) → free ≡ all (is_zero marks) n k → free ≡ can_take marks n k
-  unfolding can_take
-  take-free h free e = rw (le-leb (n + k) (length marks) h) e
+pub all_range : (test : ℕ → Bool) (s : List ℕ) (from k : ℕ) → from + k ≤ length s → list_all test (slice_range s from (from + k)) ≡ all (λ i. test (get_or s i 0)) from k
+all_range test s from k h =
+    let e : from + k - from ≡ k = omega arith in
+    rw e (all_part test s k from h)
 
 -- ---- a number in three marks: the stores that code makes
 pub write-digits : (marks : List ℕ) (n x : ℕ) →

@@ -4,7 +4,10 @@
 #![tactic(auto)]
 
 mod marks;
+mod number;
 mod probe;
+mod used;
 
-pub use marks::{read_number, take, write_number};
-pub use probe::{field, node_room, text_end};
+pub use marks::{Damaged, read_number, take, write_number};
+pub use number::NodeNumber;
+pub use used::Used;

@@ -1,37 +1,43 @@
 // Marks in scratch: words free or taken, and numbers kept in three marks each.
-ghost use Rattle.std.specs.Prelude.{◌≡◌, cond, ◌+◌, ◌≤◌, ◌<◌, length};
+ghost use Rattle.std.specs.Prelude.{◌≡◌, cond, ◌+◌, ◌≤◌, ◌<◌, length, is_ok};
 ghost use Rattle.walk.specs.Marks.{all, is_zero, can_take, fill, write, digit, read};
 ghost use Rattle.probes.specs.Limits.{word_limit};
+ghost use Rattle.layout.specs.declared.refusal.Refusal.{Refusal};
+
+use layout::Refusal;
 
 // Whether k words are free, from the n-th on.
 fn free(marks: &[u8], n: usize, k: usize) -> bool
     requires { n + k ≤ length marks.now }
     ensures { result ≡ all (is_zero marks.now) n k }
 {
-    let mut i = 0;
-    while i < k {
-        if marks[n + i] != 0 {
-            return false;
-        }
-        i += 1;
+    marks[n..n + k].iter().all(|mark| *mark == 0)
+}
+
+// The walk found damage.
+#[derive(Clone, Copy)]
+pub struct Damaged;
+
+impl From<Damaged> for Refusal {
+    ghost from_gives = { λ _ why. why ≡ Refusal.Damaged };
+
+    fn from(_damaged: Damaged) -> Refusal {
+        Refusal::Damaged
     }
-    true
 }
 
 // Takes k words from the n-th on, if all of them are there and free.
-pub fn take(marks: &mut [u8], n: usize, k: usize) -> bool
+#[tactic(auto, unfolding(walk::specs::Marks::can_take, walk::specs::Marks::fill))]
+pub fn take(marks: &mut [u8], n: usize, k: usize) -> Result<(), Damaged>
     requires { (n < word_limit) × (k < word_limit) }
-    ensures says { result ≡ can_take marks.old n k }
-    ensures leaves { marks.new ≡ cond result (fill marks.old n k) marks.old }
+    ensures says { is_ok result ≡ can_take marks.old n k }
+    ensures leaves { marks.new ≡ cond (is_ok result) (fill marks.old n k) marks.old }
 {
-    if marks.len() < n + k {
-        return false;
-    }
-    if !free(marks, n, k) {
-        return false;
+    if marks.len() < n + k || !free(marks, n, k) {
+        return Err(Damaged);
     }
     words::fill(marks, n, k, 1);
-    true
+    Ok(())
 }
 
 // Keeps a number in three marks, none of which is zero.
@@ -47,11 +53,7 @@ pub fn write_number(marks: &mut [u8], n: usize, x: usize)
 fn digit(marks: &[u8], n: usize) -> usize
     ensures { (result ≡ digit marks.now n) × (result < 255) }
 {
-    let b = words::byte_or_zero(marks, n);
-    if b == 0 {
-        return 0;
-    }
-    (b - 1) as usize
+    words::byte_or_zero(marks, n).saturating_sub(1) as usize
 }
 
 // The number that three marks keep.

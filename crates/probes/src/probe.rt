@@ -1,88 +1,71 @@
 // What stands at an offset: a node or a text, and how many words it takes.
-ghost use Rattle.std.specs.Prelude.{◌≡◌, ◌+◌, ◌≤◌, ◌<◌, length};
+ghost use Rattle.std.specs.Prelude.{◌≡◌, ◌+◌, ◌*◌, ◌≤◌, ◌<◌, length, unwrap_or, IfSome};
+ghost use Rattle.layout.specs.Layout.{byte_of};
 ghost use Rattle.walk.specs.Marks.{all};
-ghost use Rattle.walk.specs.Model.{field_at, is_plain, node_room, text_end};
-ghost use Rattle.probes.specs.Limits.{word_limit, node_limit, UsedIn};
+ghost use Rattle.walk.specs.Model.{is_plain, node_room, text_end};
+ghost use Rattle.probes.specs.Limits.{word_limit, can_begin};
 
+use crate::used::Used;
 use layout::{Backup, Header, Node};
-
-// A field of node n.
-pub fn field(area: &[u8], n: usize, field: usize) -> u32
-    requires { (n < node_limit) × (field < 128) }
-    ensures { result ≡ field_at area.now n field }
-{
-    words::word_or_zero(area, Header::SIZE + n * 4 + field)
-}
 
 // Whether k bytes are neither zero nor dot, from a place on.
 fn plain(s: &[u8], from: usize, k: usize) -> bool
     requires { from + k ≤ length s.now }
     ensures { result ≡ all (is_plain s.now) from k }
 {
-    let mut i = 0;
-    while i < k {
-        let b = s[from + i];
-        if b == 0 {
-            return false;
-        }
-        if b == b'.' {
-            return false;
-        }
-        i += 1;
-    }
-    true
+    s[from..from + k].iter().all(|b| *b != 0 && *b != b'.')
 }
 
-// The words of the node at an offset, or 0 if no node can stand there.
-pub fn node_room(area: &[u8], used: usize, at: usize) -> usize
-    requires { (UsedIn area.now used) × (at < word_limit) }
-    ensures { result ≡ node_room area.now used at }
+// Whether an object can begin at an offset.
+fn can_begin(at: usize) -> bool
+    ensures { result ≡ can_begin at }
 {
-    if at % 4 != 0 {
-        return 0;
-    }
-    if at < Backup::END {
-        return 0;
-    }
-    if used < at + Node::SIZE {
-        return 0;
-    }
-    let node = Node { at };
-    let size = node.namelen(area) as usize;
-    if size == 0 {
-        return 0;
-    }
-    if used < at + Node::SIZE + size + 1 {
-        return 0;
-    }
-    let name = Header::SIZE + at + Node::SIZE;
-    if !plain(area, name, size) {
-        return 0;
-    }
-    if area[name + size] != 0 {
-        return 0;
-    }
-    (Node::SIZE + size + 1 + 3) / 4
+    at % 4 == 0 && Backup::END <= at
 }
 
-// The place of the zero of a text that begins at a place, in an object at an offset; 0 if none can stand there.
-pub fn text_end(area: &[u8], used: usize, at: usize, from: usize) -> usize
-    requires { UsedIn area.now used }
-    ensures { result ≡ text_end area.now used at from }
-{
-    if at % 4 != 0 {
-        return 0;
+impl<'a> Used<'a> {
+    // The words of the node at an offset, six or more, if one can stand there.
+    #[tactic(auto, unfolding(walk::specs::Model::node_room))]
+    pub fn node_room(self, at: usize) -> Option<usize>
+        requires { at < word_limit }
+        ensures says { unwrap_or result 0 ≡ node_room self.entry.area.now self.entry.mark at }
+        ensures within { IfSome result (λ room. (6 ≤ room) × (4 * room ≤ self.entry.mark + 3)) }
+    {
+        if !can_begin(at) || self.mark < at + Node::SIZE {
+            return None;
+        }
+        let node = Node {
+            area: self.area,
+            at,
+        };
+        let size = node.namelen() as usize;
+        if size == 0 || self.mark < at + Node::SIZE + size + 1 {
+            return None;
+        }
+        let name = Header::SIZE + at + Node::SIZE;
+        if !plain(self.area, name, size) || self.area[name + size] != 0 {
+            return None;
+        }
+        Some((Node::SIZE + size + 1).div_ceil(4))
     }
-    if at < Backup::END {
-        return 0;
+
+    // The place of the zero of a text that begins at a place, in an object at an offset, if one can stand there.
+    #[tactic(auto, unfolding(walk::specs::Model::text_end))]
+    pub fn text_end(self, at: usize, from: usize) -> Option<usize>
+        ensures says { unwrap_or result 0 ≡ text_end self.entry.area.now self.entry.mark at from }
+        ensures within { IfSome result (λ zero. (from ≤ zero) × (zero < byte_of self.entry.mark)) }
+    {
+        if !can_begin(at) {
+            return None;
+        }
+        let end = Header::SIZE + self.mark;
+        if end <= from {
+            return None;
+        }
+        let zero = words::first(self.area, 0, from, end);
+        if zero == end {
+            return None;
+        }
+        Some(zero)
     }
-    let end = Header::SIZE + used;
-    if end <= from {
-        return 0;
-    }
-    let zero = words::first(area, 0, from, end);
-    if zero == end {
-        return 0;
-    }
-    zero
 }

@@ -1,11 +1,10 @@
--- The programs' buffers begin as zeros: what holds of a number holds of the length of so many. A place that is not where it was has moved on.
--- What is owed, said in two parts; and owed for the rest of an input that has ended. What counts of a file, by the read behind its bytes.
-use Prim.Native.Nat.{ℕ, zero, suc, ◌≤◌, ◌<◌}
+-- The programs' buffers begin as zeros: what holds of a number holds of the length of so many. What is owed, said in two parts.
+-- What counts of a file, by the read behind its bytes.
+use Prim.Native.Nat.{ℕ, zero, suc}
 use mathlib.Core.Path.{◌≡◌, refl, sym, ◌∙◌, subst}
 use mathlib.Core.List.{List, ◌++◌, append_assoc}
-use native.Mathlib.Decide.{dec_lt}
 use native.Mathlib.Omega.{arith}
-use lib.ListN.{length, drop, replicate, length-replicate, drop_of_length-le}
+use lib.ListN.{length, replicate, length-replicate}
 use lib.IntN.{ℤ, pos, negsuc}
 use mir.Syntax.{w64}
 use mir.Val.{SFits, of_z}
@@ -15,20 +14,9 @@ use Rattle.programs.specs.Reading.{readable_size}
 pub lends : (P : ℕ → Type 0) (size : ℕ) → P size → P (length {A = ℕ} (replicate size 0))
 lends P size h = subst P (sym (length-replicate {A = ℕ} size 0)) h
 
-pub moved_on : (from next : ℕ) → from ≤ next → (next ≡ from → ⊥) → from < next
-moved_on from next h stays = by (dec_lt from next)
-  where
-    by : Dec (from < next) → from < next
-    by (yes p) = p
-    by (no p) = absurd (stays (omega arith))
-
 pub owes-on : (before mid after : List ℕ → List ℕ) (text more : List ℕ) → ((later : List ℕ) → before later ≡ text ++ mid later)
     → ((later : List ℕ) → mid later ≡ more ++ after later) → (later : List ℕ) → before later ≡ text ++ more ++ after later
 owes-on before mid after text more e f later = e later ∙ rw (f later) (sym (append_assoc text more (after later)))
-
-pub owes-all : (before owed : List ℕ → List ℕ) (text held input : List ℕ) (next : ℕ) → length input ≤ next
-    → ((later : List ℕ) → before later ≡ text ++ owed (held ++ (drop next input ++ later))) → (later : List ℕ) → before later ≡ text ++ owed (held ++ later)
-owes-all before owed text held input next h e later = rw (drop_of_length-le input {i = next} h) at (e later)
 
 pub readable-all : (size : ℕ) (behind : ℤ) → SFits w64 behind → of_z w64 behind ≡ 0 → size ≡ readable_size size behind
 unfolding readable_size

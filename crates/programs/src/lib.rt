@@ -9,15 +9,16 @@ ghost use Rattle.texts.specs.Text.{line_feed};
 ghost use Rattle.answers.specs.Answers.{name_max, text_max};
 ghost use Rattle.answers.specs.Lines.{lookup_text};
 ghost use Rattle.printed.specs.Printed.{file_dump};
-ghost use Rattle.programs.specs.Owed.{Held, Ready, Owes, OwesIn};
+ghost use Rattle.programs.specs.Owed.{Ready, Owes, OwesIn};
 ghost use Rattle.programs.specs.Reading.{readable_size};
 
-use answers::{FILE_MAX, NAME_MAX, Progress};
+use answers::{FILE_MAX, NAME_MAX};
 use layout::{Backup, Entry, Header, Node};
 use std::fs;
 use std::fs::File;
 use std::io::Read;
 use streams::{print, read_full};
+use texts::Page;
 
 // The programs' file, in the current folder.
 const AREA: [u8; 8] = *b"area.bin";
@@ -50,7 +51,7 @@ fn readable_size(size: usize, behind: isize) -> usize
     if behind == 0 { size } else { 0 }
 }
 
-// What a read of one byte more answers: how many bytes, or -1 where it fails.
+// What a read of one byte more answers: how many bytes, or -1 where it fails, as C's `read` does. The rule that `readable_size` states is one about this number.
 fn read_behind(file: &mut File) -> isize {
     let mut byte = [0u8; 1];
     match file.read(&mut byte) {
@@ -65,10 +66,10 @@ fn read_whole(file: &mut File, buf: &mut [u8]) -> usize
 {
     let size = read_full(file, buf);
     if size == buf.len() {
-        return size;
+        size
+    } else {
+        readable_size(size, read_behind(file))
     }
-    let behind = read_behind(file);
-    readable_size(size, behind)
 }
 
 // Reads a file into the start of a buffer, and answers how many bytes. A file that cannot be read to its end counts as empty, and so does one whose name is no text; of a longer one there
@@ -88,6 +89,7 @@ fn load(rt: &HostRuntime, file: &[u8], buf: &mut [u8]) -> usize
 // ---- dump
 
 // Puts the dump of a file at the start of the output, all of it. The next place.
+// That the output is large enough is asked four times: a page's own invariant would be asked of every page.
 fn dump_text(area: &[u8], out: &mut [u8]) -> usize
     requires { text_max ≤ length out.old }
     ensures within { result ≤ length out.new }
@@ -118,98 +120,84 @@ pub fn dump(rt: &HostRuntime) {
 
 // ---- lookup
 
-// Answers the names of a piece of input, from a place on, and stops where the piece ends or the output may have no room for the next answer. Input that is left is taken, in part at least.
-// The answers stand at the output's start. None is lost and none is added: what was owed at the call is these answers, and then what is owed for the rest. A name that has
-// not ended stays in the line.
+// Answers the names of a piece of input, from a place on, and stops where the piece ends or the page may have no room for the next answer. Input that is left is taken, in part at least.
+// Line and page go side by side: they are two buffers with two bounds, and a struct of both would be taken apart at each call.
+// The answers stand at the page's start. None is lost and none is added: what was owed at the call is these answers, and then what is owed for the rest. A name that has
+// not ended stays in the line. Where the input goes on.
 fn answer_some(
     area: &[u8],
     input: &[u8],
     from: usize,
-    line: &mut [u8],
-    have: usize,
-    out: &mut [u8],
-) -> Progress
-    requires { (from ≤ length input.now) × Ready line.old have out.old }
-    ensures within { (result.have ≤ length line.new) × (result.next ≤ length input.now) × (result.at ≤ length out.new) }
-    ensures goes { from < length input.now → from < result.next }
-    ensures clean { Without line_feed (take result.have line.new) }
-    ensures serves { OwesIn area.now input.now (take have line.old) from (take result.at out.new) (take result.have line.new) result.next }
+    line: &mut Page<'_>,
+    page: &mut Page<'_>,
+) -> usize
+    requires { (from ≤ length input.now) × Ready line.old.out.now line.old.at page.old.out.now }
+    ensures same_line { line.new.out.ghost_name ≡ line.old.out.ghost_name }
+    ensures same_buffer { page.new.out.ghost_name ≡ page.old.out.ghost_name }
+    ensures within { (result ≤ length input.now) × (page.new.at ≤ length page.new.out.now) }
+    ensures goes { from < length input.now → from < result }
+    ensures ready { Ready line.new.out.now line.new.at page.new.out.now }
+    ensures serves { OwesIn area.now input.now (take line.old.at line.old.out.now) from (take page.new.at page.new.out.now) (take line.new.at line.new.out.now) result }
 {
-    let mut held = have;
     let mut next = from;
-    let mut at = 0;
-    while next < input.len() && TEXT_MAX <= out.len() - at {
-        let progress = answers::turn(area, input, next, line, held, out, at);
-        held = progress.have;
-        next = progress.next;
-        at = progress.at;
+    page.at = 0;
+    // Where the input goes on is the turn's answer, so this is a `while`.
+    while next < input.len() && TEXT_MAX <= page.out.len() - page.at {
+        next = answers::turn(area, input, next, line, page);
     }
-    Progress {
-        have: held,
-        next,
-        at,
-    }
+    next
 }
 
-// Answers all names of a piece of input, and prints the answers. A name that has not ended stays in the line: the result says how many bytes.
-// What was owed at the call is a text, and then what is owed for those bytes and for all that comes later.
-fn serve(
-    rt: &HostRuntime,
-    area: &[u8],
-    input: &[u8],
-    line: &mut [u8],
-    have: usize,
-    out: &mut [u8],
-) -> usize
-    requires { Ready line.old have out.old }
-    ensures clean { Held line.new result }
-    ensures holds { (text : List ℕ) × Owes area.now (take have line.old) input.now text (take result line.new) [] }
+// Answers all names of a piece of input, and prints the answers. A name that has not ended stays in the line.
+// What was owed at the call is a text, and then what is owed for what the line has and for all that comes later.
+fn serve(rt: &HostRuntime, area: &[u8], input: &[u8], line: &mut Page<'_>, page: &mut Page<'_>)
+    requires { Ready line.old.out.now line.old.at page.old.out.now }
+    ensures same_line { line.new.out.ghost_name ≡ line.old.out.ghost_name }
+    ensures same_buffer { page.new.out.ghost_name ≡ page.old.out.ghost_name }
+    ensures ready { Ready line.new.out.now line.new.at page.new.out.now }
+    ensures holds { (text : List ℕ) × Owes area.now (take line.old.at line.old.out.now) input.now text (take line.new.at line.new.out.now) [] }
 {
-    let mut held = have;
     let mut next = 0;
+    // Where the input goes on is the call's answer, here too.
     while next < input.len() {
-        let progress = answer_some(area, input, next, line, held, out);
-        held = progress.have;
-        next = progress.next;
-        let told = progress.at;
-        print(rt, &out[..told]);
+        next = answer_some(area, input, next, line, page);
+        print(rt, page.text());
     }
-    held
 }
 
 // Serves all of the input, piece by piece as it is read. Where a read fails the input ends, and a line that has not ended is no name.
-// A proved loop has to end, and nothing says that the input does: the reads are counted down from 2^64 - 1.
+// A proved loop has to end, and nothing says that the input does: there are 2^64 - 1 reads at most.
 fn serve_all<R: Read>(rt: &HostRuntime, area: &[u8], input: &mut R, line: &mut [u8], out: &mut [u8])
     requires { (name_max < length line.old) × (text_max ≤ length out.old) }
 {
     let mut space = [0u8; PIECE_SPACE];
-    let mut held = 0;
-    let mut reads = u64::MAX;
-    while reads > 0 {
+    let mut line = Page { out: line, at: 0 };
+    let mut page = Page { out, at: 0 };
+    for _ in 0..u64::MAX {
         match input.read(&mut space) {
             Ok(0) => break,
-            Ok(size) => held = serve(rt, area, &space[..size], line, held, out),
+            Ok(size) => serve(rt, area, &space[..size], &mut line, &mut page),
             Err(_) => return,
         }
-        reads -= 1;
     }
-    finish(rt, area, &line[..held], out);
+    finish(rt, area, line.text(), &mut page);
 }
 
-// Puts what is owed for a last line without line feed at the start of the output. The next place.
-fn last_text(area: &[u8], held: &[u8], out: &mut [u8]) -> usize
-    requires { (text_max ≤ length out.old) × Without line_feed held.now }
-    ensures within { result ≤ length out.new }
-    ensures whole { take result out.new ≡ lookup_text area.now held.now }
+// Puts what is owed for a last line without line feed at the start of the page.
+fn last_text(area: &[u8], held: &[u8], page: &mut Page<'_>)
+    requires { (text_max ≤ length page.old.out.now) × Without line_feed held.now }
+    ensures within { page.new.at ≤ length page.new.out.now }
+    ensures whole { take page.new.at page.new.out.now ≡ lookup_text area.now held.now }
 {
-    answers::finish(area, held, out, 0)
+    page.at = 0;
+    answers::finish(area, held, page);
 }
 
-fn finish(rt: &HostRuntime, area: &[u8], held: &[u8], out: &mut [u8])
-    requires { (text_max ≤ length out.old) × Without line_feed held.now }
+fn finish(rt: &HostRuntime, area: &[u8], held: &[u8], page: &mut Page<'_>)
+    requires { (text_max ≤ length page.old.out.now) × Without line_feed held.now }
 {
-    let told = last_text(area, held, out);
-    print(rt, &out[..told]);
+    last_text(area, held, page);
+    print(rt, page.text());
 }
 
 fn print_answers<R: Read>(rt: &HostRuntime, area: &[u8], input: &mut R) {
@@ -219,6 +207,7 @@ fn print_answers<R: Read>(rt: &HostRuntime, area: &[u8], input: &mut R) {
 }
 
 // Prints a file's answer to each name of an input.
+// It begins as `dump_file` does, by two lines: a function that takes the rest as a closure would be longer than these.
 pub fn lookup_file<R: Read>(rt: &HostRuntime, file: &[u8], input: &mut R) {
     let mut space = [0u8; FILE_SPACE];
     let size = load(rt, file, &mut space);

@@ -1,41 +1,36 @@
 -- What an answer tells: its case, by the refusals' numbers; and of find, that the entry it found can be touched, and how many nodes it compared.
-use Rattle.std.proofs.Common.{◌≡◌, ℕ, suc, ◌+◌, ◌*◌, ◌%◌, ◌<◌, ◌≤◌, true, eqb, List, [], ◌∷◌, ◌++◌, length, refl, ap, inl, suc-mul, arith, length-append}
+use Rattle.std.proofs.Common.{◌≡◌, ℕ, suc, ◌+◌, ◌*◌, ◌%◌, ◌<◌, ◌≤◌, true, eqb, List, [], ◌∷◌, ◌++◌, length, refl, inl, suc-mul, arith, length-append}
 use Rattle.words.proofs.Laws.{bool_cases, clash}
 use Rattle.names.specs.Names.{segments}
 use Rattle.layout.specs.declared.refusal.Refusal.{Refusal}
 use Rattle.layout.specs.Layout.{root_at, prop_field, node_ok, entry_ok, word_at}
-use Rattle.layout.specs.Refusals.{Answer, accepted, refuse, number_of}
-use Rattle.layout.proofs.Promises.{one-refusal}
+use Rattle.layout.specs.Refusals.{Answer, accepted, refuse}
+use Rattle.layout.proofs.Numbers.{answered-tells}
+use Rattle.std.specs.Prelude.{Result, Ok, Err}
+use Rattle.layout.specs.declared.text.Span.{Span}
 use Rattle.trie.specs.declared.trie.Searched.{Searched}
-use Rattle.property_area.specs.declared.counting.EntrySerial.{EntrySerial}
 use Rattle.property_area.specs.declared.descent.Found.{Found}
-use Rattle.property_area.specs.declared.values.AreaPart.{AreaPart}
 use Rattle.trie.specs.Header.{header_ok}
 use Rattle.trie.specs.Trie.{nodes_max, segment_steps}
 use Rattle.trie.specs.Visits.{visits}
 use Rattle.trie.proofs.Promises.{segment-bound, segment-counts}
 use Rattle.property_area.specs.Find.{Hit, hit, count_limit, found_answer, by_search, prop_steps, find_from, find_steps}
 use Rattle.property_area.specs.Walked.{by_named, walked_from, walked}
-use Rattle.property_area.specs.Value.{part_answer, serial_answer}
+use Rattle.property_area.specs.Value.{bytes, part_answer, serial_answer}
 
 -- ---- an answer by its number tells the case
-pub found-tells : (a b : Found) → found_answer a ≡ found_answer b → a ≡ b
-found-tells (Found.Entry o n) (Found.Entry p m) e = let f : o ≡ p = cc in let g : n ≡ m = cc in cc
-found-tells (Found.Entry o n) (Found.Refused b) e = clash cc
-found-tells (Found.Refused a) (Found.Entry p m) e = clash cc
-found-tells (Found.Refused a) (Found.Refused b) e = let k : number_of a ≡ number_of b = cc in ap Found.Refused (one-refusal a b k)
+pub found-tells : (a b : Result Found Refusal) → found_answer a ≡ found_answer b → a ≡ b
+found-tells =
+    answered-tells (λ (found : Found). hit found.offset found.compared)
+    (λ a b e. let f : a.offset ≡ b.offset = cc in let g : a.compared ≡ b.compared = cc in λ i. record { offset = f i; compared = g i })
 
-pub part-tells : (a b : AreaPart) → part_answer a ≡ part_answer b → a ≡ b
-part-tells (AreaPart.Bytes o n) (AreaPart.Bytes p m) e = let f : o ≡ p = cc in let g : n ≡ m = cc in cc
-part-tells (AreaPart.Bytes o n) (AreaPart.Refused b) e = clash cc
-part-tells (AreaPart.Refused a) (AreaPart.Bytes p m) e = clash cc
-part-tells (AreaPart.Refused a) (AreaPart.Refused b) e = let k : number_of a ≡ number_of b = cc in ap AreaPart.Refused (one-refusal a b k)
+pub part-tells : (a b : Result Span Refusal) → part_answer a ≡ part_answer b → a ≡ b
+part-tells =
+    answered-tells (λ (span : Span). bytes span.from span.to)
+    (λ a b e. let f : a.from ≡ b.from = cc in let g : a.to ≡ b.to = cc in λ i. record { from = f i; to = g i })
 
-pub serial-tells : (a b : EntrySerial) → serial_answer a ≡ serial_answer b → a ≡ b
-serial-tells (EntrySerial.Word n) (EntrySerial.Word m) e = let g : n ≡ m = cc in cc
-serial-tells (EntrySerial.Word n) (EntrySerial.Refused b) e = clash cc
-serial-tells (EntrySerial.Refused a) (EntrySerial.Word m) e = clash cc
-serial-tells (EntrySerial.Refused a) (EntrySerial.Refused b) e = let k : number_of a ≡ number_of b = cc in ap EntrySerial.Refused (one-refusal a b k)
+pub serial-tells : (a b : Result ℕ Refusal) → serial_answer a ≡ serial_answer b → a ≡ b
+serial-tells = answered-tells (λ (n : ℕ). n) (λ a b e. cc)
 
 -- ---- what holds of every refusal, and of every hit at an entry that can be touched that tells the count of the nodes compared, holds of what find answers
 module _ (area : List ℕ) (P : Answer Hit → Type 0) (refuses : (why : Refusal) → P (refuse why)) where
@@ -58,15 +53,15 @@ module _ (area : List ℕ) (P : Answer Hit → Type 0) (refuses : (why : Refusal
   from-every [] node n small finds = prop-every node n (λ offset o. finds offset n o (omega arith))
   from-every (segment ∷ rest) node n small finds = by (segment_steps area segment node) refl finds (from-every rest)
     where
-      by : (s : Searched) → segment_steps area segment node ≡ s → Finds n (visits (nodes_max area) area segment node ++ by_named s (walked_from area rest))
+      by : (s : Result Searched Refusal) → segment_steps area segment node ≡ s → Finds n (visits (nodes_max area) area segment node ++ by_named s (walked_from area rest))
           → ((at more : ℕ) → more < count_limit → Finds more (walked_from area rest at) → P (find_from area rest at more))
           → P (by_search s (λ named more. find_from area rest named ((n + more) % count_limit)))
-      by (Searched.Named at more) e finds on =
+      by (Ok (Searched.Named at more)) e finds on =
           on at ((n + more) % count_limit) (omega arith)
           (λ offset m o f. finds offset m o
           (omega (arith, f, segment-counts area segment node at more (inl e), length-append (visits (nodes_max area) area segment node) (walked_from area rest at))))
-      by (Searched.Absent link more) e finds on = refuses Refusal.Missing
-      by (Searched.Refused why) e finds on = refuses why
+      by (Ok (Searched.Absent link more)) e finds on = refuses Refusal.Missing
+      by (Err why) e finds on = refuses why
 
   found-every : (name : List ℕ) → (header_ok area ≡ true → (offset m : ℕ) → entry_ok area offset ≡ true → m ≡ length (walked area name) % count_limit → P (accepted (hit offset m))) → P (find_steps area name)
   unfolding find_steps walked
@@ -103,11 +98,11 @@ from-most (segment ∷ rest) area node = by (segment_steps area segment node) (f
       suc-mul (length rest) (nodes_max area),
     )
 
-    by : (s : Searched) → ((at : ℕ) → length (walked_from area rest at) ≤ length rest * nodes_max area)
+    by : (s : Result Searched Refusal) → ((at : ℕ) → length (walked_from area rest at) ≤ length rest * nodes_max area)
         → length (visits (nodes_max area) area segment node ++ by_named s (walked_from area rest)) ≤ suc (length rest) * nodes_max area
-    by (Searched.Named at more) on = most (walked_from area rest at) (on at)
-    by (Searched.Absent link more) on = most [] (omega arith)
-    by (Searched.Refused why) on = most [] (omega arith)
+    by (Ok (Searched.Named at more)) on = most (walked_from area rest at) (on at)
+    by (Ok (Searched.Absent link more)) on = most [] (omega arith)
+    by (Err why) on = most [] (omega arith)
 
 pub walked-most : (area name : List ℕ) → length (walked area name) ≤ length (segments name) * nodes_max area
 unfolding walked

@@ -1,61 +1,26 @@
--- One law for each way out of the steps of specs/Find.antt.
-use Rattle.std.proofs.Common.{◌≡◌, ℕ, ◌+◌, ◌%◌, true, false, List, [], ◌∷◌, sym, refl, ◌∙◌, eq-eqb, ne_eqb}
-use Rattle.names.proofs.Laws.{segments_from, segments-whole}
-use Rattle.layout.specs.declared.refusal.Refusal.{Refusal}
-use Rattle.layout.specs.Layout.{root_at, prop_field, node_ok, entry_ok, word_at}
-use Rattle.layout.specs.Refusals.{Answer, accepted, refuse}
-use Rattle.trie.specs.declared.trie.Searched.{Searched}
-use Rattle.trie.specs.Header.{header_ok}
+-- A turn of find: what the cursor's step leads to.
+use Rattle.std.proofs.Common.{◌≡◌, ℕ, ◌+◌, ◌%◌, List, refl}
+use Rattle.names.specs.declared.Segment.{Segment}
+use Rattle.names.specs.Names.{step_from}
+use Rattle.names.proofs.Laws.{segments_from, segments-whole, step-done, step-segment}
+use Rattle.words.specs.Words.{part}
+use Rattle.layout.specs.Refusals.{Answer}
+use Rattle.std.specs.Prelude.{Option, Some, None}
 use Rattle.trie.specs.Trie.{segment_steps}
-use Rattle.trie.specs.View.{refusal_of}
-use Rattle.property_area.specs.Find.{Hit, hit, count_limit, prop_steps, by_search, find_from, find_steps}
+use Rattle.property_area.specs.Find.{Hit, count_limit, prop_steps, by_search, find_from}
 
--- ---- after the last segment: offset is the node's prop
-module _ (area : List ℕ) (node n : ℕ) where
-  pub prop-out : node_ok area node ≡ false → refuse Refusal.Damaged ≡ prop_steps area node n
-  unfolding prop_steps
-  prop-out t = rw t
+-- behind the last segment the node's entry, else a search
+abbrev by_step : List ℕ → List ℕ → Option Segment → ℕ → ℕ → Answer Hit
+by_step area name (Some segment) node n =
+    by_search (segment_steps area (part name segment.from segment.to) node) (λ named more. find_from area (segments_from name segment.next.at) named ((n + more) % count_limit))
+by_step area name None node n = prop_steps area node n
 
-  module _ (t : node_ok area node ≡ true) (offset : ℕ) (e : offset ≡ word_at area node prop_field) where
-    pub prop-zero : offset ≡ 0 → refuse Refusal.Missing ≡ prop_steps area node n
-    unfolding prop_steps
-    prop-zero z = rw (t, ← e, eq-eqb offset 0 z)
-
-    pub prop-wrong : (offset ≡ 0 → ⊥) → entry_ok area offset ≡ false → refuse Refusal.Damaged ≡ prop_steps area node n
-    unfolding prop_steps
-    prop-wrong z o = rw (t, ← e, ne_eqb offset 0 z, o)
-
-    pub prop-found : (offset ≡ 0 → ⊥) → entry_ok area offset ≡ true → accepted (hit offset n) ≡ prop_steps area node n
-    unfolding prop_steps
-    prop-found z o = rw (t, ← e, ne_eqb offset 0 z, o)
-
--- ---- find: before the first segment, and after the last
-pub find-header : (area name : List ℕ) → header_ok area ≡ false → refuse Refusal.BadHeader ≡ find_steps area name
-unfolding find_steps
-find-header area name h = rw h
-
-pub find-begin : (area name : List ℕ) → header_ok area ≡ true → find_steps area name ≡ find_from area (segments_from name 0) root_at 0
-unfolding find_steps
-find-begin area name h = rw (h, segments-whole)
-
-pub find-end : (area : List ℕ) (segs : List (List ℕ)) (node n : ℕ) → segs ≡ [] → prop_steps area node n ≡ find_from area segs node n
+pub find-turn : (area name : List ℕ) (at node n : ℕ) → find_from area (segments_from name at) node n ≡ by_step area name (step_from name at) node n
 unfolding find_from
-find-end area segs node n h = rw h
+find-turn area name at node n = by (step_from name at) refl
+  where
+    by : (s : Option Segment) → step_from name at ≡ s → find_from area (segments_from name at) node n ≡ by_step area name s node n
+    by (Some segment) e = rw (step-segment name at segment.from segment.to segment.next e).parts
+    by None e = rw (step-done name at e)
 
--- ---- a turn of find: s is what the search for the next segment found
--- a search that names no node
-stopped : (s : Searched) → ((m k : ℕ) → s ≡ Searched.Named m k → ⊥) → (on : ℕ → ℕ → Answer Hit) → refuse (refusal_of s) ≡ by_search s on
-stopped (Searched.Named m k) o on = absurd (o m k refl)
-stopped (Searched.Absent l k) o on = refl
-stopped (Searched.Refused why) o on = refl
-
-module _ (area : List ℕ) (segs : List (List ℕ)) (node n : ℕ) (seg : List ℕ) (rest : List (List ℕ)) (h : segs ≡ seg ∷ rest) (s : Searched) (e : s ≡ segment_steps area seg node) where
-  turn : find_from area segs node n ≡ by_search s (λ m k. find_from area rest m ((n + k) % count_limit))
-  unfolding find_from
-  turn = rw (h, e)
-
-  pub find-on : (m k : ℕ) → s ≡ Searched.Named m k → find_from area segs node n ≡ find_from area rest m ((n + k) % count_limit)
-  find-on m k g = turn ∙ rw g
-
-  pub find-stop : ((m k : ℕ) → s ≡ Searched.Named m k → ⊥) → refuse (refusal_of s) ≡ find_from area segs node n
-  find-stop o = stopped s o (λ m k. find_from area rest m ((n + k) % count_limit)) ∙ sym turn
+pub ruleset find_laws = (find-turn, segments-whole)

@@ -3,3 +3,4 @@ pub mod ValueLaws
 pub mod BackupLaws
 pub mod AnswerLaws
 pub mod Promises
+pub mod Named

@@ -3,14 +3,14 @@
 use Rattle.std.proofs.Common.{◌≡◌, ℕ, ◌*◌, ◌%◌, ◌≤◌, true, List, length, sym, ◌∙◌}
 use Rattle.words.specs.Words.{part}
 use Rattle.names.specs.Names.{segments}
-use Rattle.layout.specs.declared.refusal.Verdict.{Verdict}
+use Rattle.std.specs.Prelude.{Result}
+use Rattle.layout.specs.declared.refusal.Refusal.{Refusal}
+use Rattle.layout.specs.declared.text.Span.{Span}
 use Rattle.layout.specs.Layout.{backup_at, byte_of, place_of, entry_ok}
-use Rattle.layout.specs.Refusals.{accepted, verdict_number, leaves, accept_leaving}
+use Rattle.layout.specs.Refusals.{accepted, Verdict, verdict_number, leaves, accept_leaving}
 use Rattle.layout.proofs.Promises.{one-outcome}
 use Rattle.trie.specs.Trie.{nodes_max}
-use Rattle.property_area.specs.declared.counting.EntrySerial.{EntrySerial}
 use Rattle.property_area.specs.declared.descent.Found.{Found}
-use Rattle.property_area.specs.declared.values.AreaPart.{AreaPart}
 use Rattle.property_area.specs.Find.{hit, count_limit, found_answer, find_steps}
 use Rattle.property_area.specs.Walked.{walked}
 use Rattle.property_area.specs.Lookup.{lookup_steps}
@@ -21,19 +21,19 @@ use Rattle.property_area.proofs.AnswerLaws as answers
 use Rattle.property_area.proofs.BackupLaws as backups
 
 -- ---- no second outcome satisfies the contract of find, of value, name and serial, of the lookup, of the backup read
-pub one_found : (area name : List ℕ) (a b : Found) → found_answer a ≡ find_steps area name → found_answer b ≡ find_steps area name → a ≡ b
+pub one_found : (area name : List ℕ) (a b : Result Found Refusal) → found_answer a ≡ find_steps area name → found_answer b ≡ find_steps area name → a ≡ b
 one_found area name a b p q = found-tells a b (p ∙ sym q)
 
-pub one_value : (area : List ℕ) (offset : ℕ) (a b : AreaPart) → part_answer a ≡ value_steps area offset → part_answer b ≡ value_steps area offset → a ≡ b
+pub one_value : (area : List ℕ) (offset : ℕ) (a b : Result Span Refusal) → part_answer a ≡ value_steps area offset → part_answer b ≡ value_steps area offset → a ≡ b
 one_value area offset a b p q = part-tells a b (p ∙ sym q)
 
-pub one_name : (area : List ℕ) (offset : ℕ) (a b : AreaPart) → part_answer a ≡ name_steps area offset → part_answer b ≡ name_steps area offset → a ≡ b
+pub one_name : (area : List ℕ) (offset : ℕ) (a b : Result Span Refusal) → part_answer a ≡ name_steps area offset → part_answer b ≡ name_steps area offset → a ≡ b
 one_name area offset a b p q = part-tells a b (p ∙ sym q)
 
-pub one-serial : (area : List ℕ) (offset : ℕ) (a b : EntrySerial) → serial_answer a ≡ serial_steps area offset → serial_answer b ≡ serial_steps area offset → a ≡ b
+pub one-serial : (area : List ℕ) (offset : ℕ) (a b : Result ℕ Refusal) → serial_answer a ≡ serial_steps area offset → serial_answer b ≡ serial_steps area offset → a ≡ b
 one-serial area offset a b p q = serial-tells a b (p ∙ sym q)
 
-pub one-lookup : (area name : List ℕ) (a b : AreaPart) → part_answer a ≡ lookup_steps area name → part_answer b ≡ lookup_steps area name → a ≡ b
+pub one-lookup : (area name : List ℕ) (a b : Result Span Refusal) → part_answer a ≡ lookup_steps area name → part_answer b ≡ lookup_steps area name → a ≡ b
 one-lookup area name a b p q = part-tells a b (p ∙ sym q)
 
 pub one-backup : (area buffer : List ℕ) (v w : Verdict) (a b : List ℕ)

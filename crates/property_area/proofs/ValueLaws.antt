@@ -1,42 +1,32 @@
--- One law for each way out of the steps of specs/Value.antt, and where a value and a name stand.
-use Rattle.std.proofs.Common.{◌≡◌, ℕ, ◌≤◌, true, false, List, [], length, sym, refl, ◌∙◌}
-use Rattle.words.specs.Words.{part}
+-- Laws of specs/Value.antt: what is read of an entry that can be touched, and where a value and a name stand.
+use Rattle.std.proofs.Common.{◌≡◌, ℕ, ◌≤◌, true, List, length, sym, refl, ◌∙◌}
 use Rattle.words.proofs.Laws.{bool_cases, clash}
 use Rattle.layout.specs.declared.refusal.Refusal.{Refusal}
+use Rattle.std.specs.Prelude.{Option, Some, None, Result, Ok, Err, IfOk}
 use Rattle.layout.specs.declared.text.Span.{Span}
-use Rattle.layout.specs.Layout.{area_max, entry_size, entry_ok}
+use Rattle.layout.specs.Layout.{area_max, entry_size, entry_ok, span_at}
 use Rattle.layout.specs.Refusals.{Answer, accepted, refuse}
 use Rattle.layout.proofs.Laws.{touch-in}
 use Rattle.property_info.specs.Entry.{name_of, value_of}
 use Rattle.property_info.proofs.Lies.{Lies}
 use Rattle.property_info.proofs.Promises.{value-lies, name-lies}
 use Rattle.trie.proofs.HeaderLaws.{header-max}
-use Rattle.property_area.specs.declared.values.AreaPart.{AreaPart}
 use Rattle.trie.specs.Header.{header_ok}
-use Rattle.property_area.specs.Value.{Part, bytes, part_answer, by_span, touch_steps, part_steps, part_or_none}
+use Rattle.property_area.specs.Value.{Part, bytes, part_answer, by_span, touch_steps, part_steps, LiesIn}
 
 -- ---- of whatever is read
-module _ {A : Type 0} (area : List ℕ) (offset : ℕ) (read : Answer A) where
-  pub touch-header : header_ok area ≡ false → refuse Refusal.BadHeader ≡ touch_steps area offset read
-  unfolding touch_steps
-  touch-header h = rw h
-
-  module _ (h : header_ok area ≡ true) where
-    pub touch-out : entry_ok area offset ≡ false → refuse Refusal.Damaged ≡ touch_steps area offset read
-    unfolding touch_steps
-    touch-out t = rw (h, t)
-
-    pub touch-read : entry_ok area offset ≡ true → (a : Answer A) → a ≡ read → a ≡ touch_steps area offset read
-    unfolding touch_steps
-    touch-read t a e = rw (h, t, e)
+pub touch-read : {A : Type 0} (area : List ℕ) (offset : ℕ) (read : Answer A) → header_ok area ≡ true → entry_ok area offset ≡ true → (a : Answer A) → a ≡ read → a ≡ touch_steps area offset read
+unfolding touch_steps
+touch-read area offset read h t a e = rw (h, t, e)
 
 -- ---- of a text: s is the span that was found
-module _ (area : List ℕ) (offset : ℕ) (span : Span) (h : header_ok area ≡ true) (t : entry_ok area offset ≡ true) (s : Span) (e : s ≡ span) where
-  pub part_bytes : (from to : ℕ) → s ≡ Span.Bytes from to → accepted (bytes from to) ≡ part_steps area offset span
-  part_bytes from to f = touch-read area offset (by_span span) h t (accepted (bytes from to)) (rw (← e, f))
+pub part_bytes : (area : List ℕ) (offset : ℕ) (span : Option Span) → header_ok area ≡ true → entry_ok area offset ≡ true → (s : Option Span) → s ≡ span
+    → (from to : ℕ) → s ≡ span_at from to → accepted (bytes from to) ≡ part_steps area offset span
+part_bytes area offset span h t s e from to f = touch-read area offset (by_span span) h t (accepted (bytes from to)) (rw (← e, f))
 
-  pub part-broken : s ≡ Span.Broken → refuse Refusal.Damaged ≡ part_steps area offset span
-  part-broken f = touch-read area offset (by_span span) h t (refuse Refusal.Damaged) (rw (← e, f))
+-- a result that tells a part
+abbrev pub part_at : ℕ → ℕ → Result Span Refusal
+part_at from to = Ok (record { from = from; to = to })
 
 -- ---- a text that is shown is a part of an area that is not too long
 pub record PartIn (area : List ℕ) (from to : ℕ) : Type 0 where
@@ -45,8 +35,8 @@ pub record PartIn (area : List ℕ) (from to : ℕ) : Type 0 where
   pub small : length area ≤ area_max
 
 -- where an entry can be touched, such a span of it lies in the area
-abbrev pub Stands : List ℕ → ℕ → Span → Type 0
-Stands area offset span = entry_ok area offset ≡ true → (from to : ℕ) → span ≡ Span.Bytes from to → Lies area from to
+abbrev pub Stands : List ℕ → ℕ → Option Span → Type 0
+Stands area offset span = entry_ok area offset ≡ true → (from to : ℕ) → span ≡ span_at from to → Lies area from to
 
 pub value-stands : (area : List ℕ) (offset : ℕ) → Stands area offset (value_of area offset)
 value-stands area offset t from to = value-lies area offset from to (touch-in area entry_size offset t)
@@ -63,13 +53,13 @@ touch-every area offset read P refuses shows =
     (λ h. bool_cases (entry_ok area offset) (λ t. rw (h, t) (shows h t)) (λ t. rw (h, t) (refuses Refusal.Damaged)))
     (λ h. rw h (refuses Refusal.BadHeader))
 
-module _ (area : List ℕ) (offset : ℕ) (span : Span) (stands : Stands area offset span) where
+module _ (area : List ℕ) (offset : ℕ) (span : Option Span) (stands : Stands area offset span) where
   pub part-every : (P : Answer Part → Type 0) → ((why : Refusal) → P (refuse why)) → ((from to : ℕ) → PartIn area from to → P (accepted (bytes from to))) → P (part_steps area offset span)
   part-every P refuses shows = touch-every area offset (by_span span) P refuses (λ h t. by h (stands t) span refl)
     where
-      by : header_ok area ≡ true → ((from to : ℕ) → span ≡ Span.Bytes from to → Lies area from to) → (s : Span) → span ≡ s → P (by_span s)
-      by h lies (Span.Bytes from to) e = let l = lies from to e in shows from to (record { low = l.low; high = l.high; small = header-max area h })
-      by h lies Span.Broken e = refuses Refusal.Damaged
+      by : header_ok area ≡ true → ((from to : ℕ) → span ≡ span_at from to → Lies area from to) → (s : Option Span) → span ≡ s → P (by_span s)
+      by h lies (Some text) e = let l = lies text.from text.to e in shows text.from text.to (record { low = l.low; high = l.high; small = header-max area h })
+      by h lies None e = refuses Refusal.Damaged
 
   pub accepted-in : (from to : ℕ) → part_steps area offset span ≡ accepted (bytes from to) → PartIn area from to
   accepted-in from to e =
@@ -78,13 +68,10 @@ module _ (area : List ℕ) (offset : ℕ) (span : Span) (stands : Stands area of
       e
 
   -- for a caller that has the answer in hand
-  pub part_in : (s : AreaPart) → part_answer s ≡ part_steps area offset span → (from to : ℕ) → s ≡ AreaPart.Bytes from to → PartIn area from to
+  pub part_in : (s : Result Span Refusal) → part_answer s ≡ part_steps area offset span → (from to : ℕ) → s ≡ part_at from to → PartIn area from to
   part_in s e from to f = accepted-in from to (sym e ∙ rw f)
 
--- ---- the part itself, of an answer that a definition gives
-module _ (area : List ℕ) (answer : Answer Part) (s : AreaPart) (e : part_answer s ≡ answer) where
-  pub shown-bytes : (from to : ℕ) → s ≡ AreaPart.Bytes from to → part area from to ≡ part_or_none area answer
-  shown-bytes from to f = rw (← e, f)
-
-  pub shown-refused : (why : Refusal) → s ≡ AreaPart.Refused why → [] ≡ part_or_none area answer
-  shown-refused why f = rw (← e, f)
+  -- so that part may be taken out of the area
+  pub part_lies : (s : Result Span Refusal) → part_answer s ≡ part_steps area offset span → IfOk s (LiesIn area)
+  part_lies (Ok text) e = let p = part_in (Ok text) e text.from text.to refl in (p.low, p.high)
+  part_lies (Err why) e = tt

@@ -1,8 +1,8 @@
 -- Find (RULES 4.1, 4.2).
-use Rattle.std.specs.Prelude.{ℕ, ◌+◌, ◌%◌, ◌^◌, cond, List, [], ◌∷◌, ◌==◌}
+use Rattle.std.specs.Prelude.{ℕ, ◌+◌, ◌%◌, ◌^◌, cond, List, [], ◌∷◌, ◌==◌, Result, Ok, Err}
 use Rattle.names.specs.Names.{segments}
 use Rattle.layout.specs.declared.refusal.Refusal.{Refusal}
-use Rattle.layout.specs.Refusals.{Answer, accepted, refused, refuse, guard}
+use Rattle.layout.specs.Refusals.{Answer, accepted, refused, refuse, answered, guard}
 use Rattle.layout.specs.Layout.{root_at, prop_field, word_at, node_ok, entry_ok}
 use Rattle.trie.specs.Header.{header_ok}
 use Rattle.trie.specs.Trie.{segment_steps}
@@ -23,15 +23,14 @@ by_hit refusing on (accepted (hit offset compared)) = on offset
 by_hit refusing on (refused number) = refusing number
 
 -- what each case of the answer means
-abbrev pub found_answer : Found → Answer Hit
-found_answer (Found.Entry offset compared) = accepted (hit offset compared)
-found_answer (Found.Refused why) = refuse why
+abbrev pub found_answer : Result Found Refusal → Answer Hit
+found_answer = answered (λ (found : Found). hit found.offset found.compared)
 
 -- unless the search names a node, its refusal: no such node is 3
-abbrev pub by_search : Searched → (ℕ → ℕ → Answer Hit) → Answer Hit
-by_search (Searched.Named node compared) on = on node compared
-by_search (Searched.Absent link compared) on = refuse Refusal.Missing
-by_search (Searched.Refused why) on = refuse why
+abbrev pub by_search : Result Searched Refusal → (ℕ → ℕ → Answer Hit) → Answer Hit
+by_search (Ok (Searched.Named node compared)) on = on node compared
+by_search (Ok (Searched.Absent link compared)) on = refuse Refusal.Missing
+by_search (Err why) on = refuse why
 
 -- RULES 4.2: no entry there (3), else it is touched
 abbrev pub entry_steps : List ℕ → ℕ → ℕ → Answer Hit

@@ -3,13 +3,9 @@
 #![tactic(auto)]
 
 mod backup;
-mod counting;
 mod descent;
-mod naming;
 mod values;
 
 pub use backup::read_dirty_backup;
-pub use counting::{EntrySerial, serial};
 pub use descent::{Found, find};
-pub use naming::{name, name_bytes};
-pub use values::{AreaPart, value, value_bytes};
+pub use values::{name, name_bytes, serial, value, value_bytes};

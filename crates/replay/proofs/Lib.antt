@@ -1,5 +1,3 @@
 pub mod ChecksumLaws
-pub mod RecordLaws
-pub mod StepLaws
-pub mod TurnLaws
 pub mod ReplayLaws
+pub mod Named

@@ -1,25 +1,24 @@
 -- The vectors: how many records, then the records one after the other. A record is its opcode, its arguments, its byte strings, its answers and a
 -- checksum. All but the byte strings are words.
-use Rattle.std.specs.Prelude.{ℕ, ◌+◌, ◌-◌, ◌*◌, ◌≤◌, ◌≡◌, Bool, true, false, cond, List, eqb, leb, length}
+use Rattle.std.specs.Prelude.{ℕ, ◌+◌, ◌-◌, ◌*◌, ◌≤◌, ◌≡◌, Bool, true, false, cond, List, eqb, leb, length, Option, Some, None, Result, Ok, Err}
 use Rattle.words.specs.Words.{little_at}
 use Rattle.replay.specs.declared.records.Step.{Step}
 use Rattle.replay.specs.declared.records.Step.TheVariants.{Format, Add, Update, RawUpdate, Find, Value, BackupRead, Distance, Poke}
-use Rattle.replay.specs.declared.records.Opcode.{Opcode}
-use Rattle.replay.specs.declared.records.Opcode.TheVariants.{Of, Unknown}
+use Rattle.replay.specs.declared.records.End.{End}
 use Rattle.replay.specs.declared.records.Parts.{Parts}
-use Rattle.replay.specs.declared.records.Reading.{Reading}
 
-unfoldable pub step_of : ℕ → Opcode
+-- opcodes are 1 to 9
+unfoldable pub step_of : ℕ → Option Step
 step_of opcode =
-    cond (eqb opcode 1) (Of Format)
-    (cond (eqb opcode 2) (Of Add)
-    (cond (eqb opcode 3) (Of Update)
-    (cond (eqb opcode 4) (Of RawUpdate)
-    (cond (eqb opcode 5) (Of Find)
-    (cond (eqb opcode 6) (Of Value)
-    (cond (eqb opcode 7) (Of BackupRead)
-    (cond (eqb opcode 8) (Of Distance)
-    (cond (eqb opcode 9) (Of Poke) Unknown))))))))
+    cond (eqb opcode 1) (Some Format)
+    (cond (eqb opcode 2) (Some Add)
+    (cond (eqb opcode 3) (Some Update)
+    (cond (eqb opcode 4) (Some RawUpdate)
+    (cond (eqb opcode 5) (Some Find)
+    (cond (eqb opcode 6) (Some Value)
+    (cond (eqb opcode 7) (Some BackupRead)
+    (cond (eqb opcode 8) (Some Distance)
+    (cond (eqb opcode 9) (Some Poke) None))))))))
 
 abbrev pub arguments_of : Step → ℕ
 arguments_of Format = 1
@@ -116,17 +115,17 @@ parts_at vectors step from =
     parts_from vectors step from (word_of vectors lengths (strings_of step) 0) (word_of vectors lengths (strings_of step) 1)
 
 -- it is cut unless its checksum stands before the end
-abbrev pub read_parts : List ℕ → Parts → Reading
-read_parts vectors parts = cond (leb (parts.checksum + 4) (length vectors)) (Reading.Record parts) Reading.Cut
+abbrev pub read_parts : List ℕ → Parts → Result Parts End
+read_parts vectors parts = cond (leb (parts.checksum + 4) (length vectors)) (Ok parts) (Err End.Cut)
 
-abbrev pub by_opcode : Opcode → (Step → Reading) → Reading
-by_opcode (Of step) on = on step
-by_opcode Unknown on = Reading.Unknown
+abbrev pub by_opcode : Option Step → (Step → Result Parts End) → Result Parts End
+by_opcode (Some step) on = on step
+by_opcode None on = Err End.Unknown
 
 -- the record that begins at a place
-unfoldable pub read_record : List ℕ → ℕ → Reading
+unfoldable pub read_record : List ℕ → ℕ → Result Parts End
 read_record vectors at =
-    cond (leb (at + 4) (length vectors)) (by_opcode (step_of (little_at 4 vectors at)) (λ step. read_parts vectors (parts_at vectors step (at + 4)))) Reading.Cut
+    cond (leb (at + 4) (length vectors)) (by_opcode (step_of (little_at 4 vectors at)) (λ step. read_parts vectors (parts_at vectors step (at + 4)))) (Err End.Cut)
 
 -- what a record that was read promises: its parts stand in their order, the checksum before the end
 pub record Lies (vectors : List ℕ) (p : Parts) : Type 0 where

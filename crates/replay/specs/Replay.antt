@@ -1,8 +1,7 @@
 -- All records, one after the other.
-use Rattle.std.specs.Prelude.{ℕ, zero, suc, ◌+◌, ◌≤◌, Bool, true, false, cond, not, List, eqb, ltb, length, replicate}
+use Rattle.std.specs.Prelude.{ℕ, zero, suc, ◌+◌, ◌≤◌, Bool, true, false, cond, not, List, eqb, ltb, length, replicate, Ok, Err}
 use Rattle.words.specs.Words.{little_at}
-use Rattle.replay.specs.declared.turns.End.{End}
-use Rattle.replay.specs.declared.turns.Turn.{Turn}
+use Rattle.replay.specs.declared.records.End.{End}
 use Rattle.replay.specs.declared.replaying.Tally.{Tally}
 use Rattle.replay.specs.declared.replaying.Report.{Report}
 use Rattle.replay.specs.Turns.{Turned, turns, turn_at}
@@ -31,8 +30,8 @@ abbrev pub end_at : List ℕ → ℕ → End
 end_at vectors at = cond (eqb at (length vectors)) End.Whole End.Surplus
 
 abbrev pub by_turn : Turned → (End → Report) → (ℕ → ℕ → Bool → Bool → List ℕ → Report) → Report
-by_turn (turns (Turn.Done next size call same) space) stop on = on next size call same space
-by_turn (turns (Turn.Stopped end) space) stop on = stop end
+by_turn (turns (Ok t) space) stop on = on t.next t.size t.call t.agrees space
+by_turn (turns (Err end) space) stop on = stop end
 
 -- so many records from a place on, with a buffer of so many bytes; so many bytes of the space are the area
 unfoldable pub replay_from : List ℕ → ℕ → ℕ → ℕ → ℕ → List ℕ → Tally → Report

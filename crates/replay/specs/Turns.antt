@@ -1,10 +1,9 @@
 -- One record: what its step is made on, what is compared, and what is left for the next.
-use Rattle.std.specs.Prelude.{ℕ, ◌+◌, Bool, cond, ◌&&◌, List, ◌++◌, eqb, ltb, length, take, drop}
+use Rattle.std.specs.Prelude.{ℕ, ◌+◌, Bool, cond, ◌&&◌, List, ◌++◌, eqb, ltb, length, take, drop, Result, Ok, Err}
 use Rattle.words.specs.Words.{little_at, part}
+use Rattle.replay.specs.declared.records.End.{End}
 use Rattle.replay.specs.declared.records.Parts.{Parts}
-use Rattle.replay.specs.declared.records.Reading.{Reading}
 use Rattle.replay.specs.declared.steps.Answers.{Answers}
-use Rattle.replay.specs.declared.turns.End.{End}
 use Rattle.replay.specs.declared.turns.Turn.{Turn}
 use Rattle.replay.specs.Checksum.{adler}
 use Rattle.replay.specs.Records.{answers_of, is_call, area_size, wanted_of, word_of, read_record}
@@ -31,23 +30,23 @@ compare vectors p (plays given area) = compares (agrees vectors p given (adler a
 
 -- what became of a record, and the space's bytes afterwards
 pub data Turned : Type 0 where
-  turns : Turn → List ℕ → Turned
+  turns : Result Turn End → List ℕ → Turned
 
 -- the area is the first bytes of the space; the others stay
 abbrev pub turn_done : Parts → ℕ → List ℕ → Compared → Turned
-turn_done p size space (compares same area) = turns (Turn.Done (p.checksum + 4) size (is_call p.step) same) (area ++ drop size space)
+turn_done p size space (compares same area) =
+    turns (Ok (record { next = p.checksum + 4; size = size; call = is_call p.step; agrees = same })) (area ++ drop size space)
 
 -- the space and the buffer have so many bytes
 unfoldable pub turn_on : List ℕ → Parts → ℕ → List ℕ → ℕ → Turned
 turn_on vectors p size space room =
-    cond (ltb (length space) size) (turns (Turn.Stopped End.NoRoom) space)
-    (cond (ltb room (wanted_of p.step p.first)) (turns (Turn.Stopped End.NoRoom) space)
+    cond (ltb (length space) size) (turns (Err End.NoRoom) space)
+    (cond (ltb room (wanted_of p.step p.first)) (turns (Err End.NoRoom) space)
     (turn_done p size space (compare vectors p (play_record vectors p (take size space) (wanted_of p.step p.first)))))
 
-abbrev pub by_reading : Reading → List ℕ → (Parts → Turned) → Turned
-by_reading (Reading.Record p) space on = on p
-by_reading Reading.Cut space on = turns (Turn.Stopped End.Cut) space
-by_reading Reading.Unknown space on = turns (Turn.Stopped End.Unknown) space
+abbrev pub by_reading : Result Parts End → List ℕ → (Parts → Turned) → Turned
+by_reading (Ok p) space on = on p
+by_reading (Err end) space on = turns (Err end) space
 
 -- the record at a place, where so many bytes of the space were the area
 unfoldable pub turn_at : List ℕ → ℕ → ℕ → List ℕ → ℕ → Turned

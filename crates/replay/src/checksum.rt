@@ -11,11 +11,9 @@ pub fn adler32(bytes: &[u8]) -> u32
 {
     let mut low: u32 = 1;
     let mut high: u32 = 0;
-    let mut i = 0;
-    while i < bytes.len() {
-        low = (low + words::wide(bytes[i])) % MODULUS;
+    for byte in bytes {
+        low = (low + u32::from(*byte)) % MODULUS;
         high = (high + low) % MODULUS;
-        i += 1;
     }
     high * 65_536 + low
 }

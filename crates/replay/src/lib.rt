@@ -7,6 +7,5 @@ mod replaying;
 mod steps;
 mod turns;
 
-pub use records::{Parts, Reading, Step, read_record};
+pub use records::{End, Parts, Step, read_record};
 pub use replaying::{Report, Tally, replay};
-pub use turns::End;

@@ -1,9 +1,9 @@
 // A record of the vectors, taken apart.
-ghost use Rattle.std.specs.Prelude.{◌≡◌, ◌+◌, ◌*◌, ◌≤◌, length};
-ghost use Rattle.replay.specs.Records.{step_of, arguments_of, strings_of, answers_of, is_call, area_size, wanted_of, word_of, parts_at, read_parts, read_record};
+ghost use Rattle.std.specs.Prelude.{◌≡◌, ◌+◌, ◌*◌, ◌≤◌, ◌<◌, length, IfOk};
+ghost use Rattle.replay.specs.Records.{step_of, arguments_of, strings_of, answers_of, is_call, area_size, wanted_of, word_of, parts_at, read_parts, read_record, Lies};
 
 // The steps, in the order of their opcodes.
-#[derive(Clone, Copy)]
+#[derive(Clone, Copy, Debug, PartialEq, Eq)]
 pub enum Step {
     Format,
     Add,
@@ -16,62 +16,46 @@ pub enum Step {
     Poke,
 }
 
-// What an opcode stands for.
-#[derive(Clone, Copy)]
-pub enum Opcode {
-    Of(Step),
-    Unknown,
-}
-
 impl Step {
-    pub fn of(opcode: u32) -> Opcode
+    // The step with an opcode, if there is one. A `TryFrom` would say how the vectors end, which is the reader's to say.
+    #[tactic(auto, unfolding(crate::specs::Records::step_of))]
+    pub fn of(opcode: u32) -> Option<Step>
         ensures { result ≡ step_of opcode }
     {
         match opcode {
-            1 => Opcode::Of(Step::Format),
-            2 => Opcode::Of(Step::Add),
-            3 => Opcode::Of(Step::Update),
-            4 => Opcode::Of(Step::RawUpdate),
-            5 => Opcode::Of(Step::Find),
-            6 => Opcode::Of(Step::Value),
-            7 => Opcode::Of(Step::BackupRead),
-            8 => Opcode::Of(Step::Distance),
-            9 => Opcode::Of(Step::Poke),
-            _ => Opcode::Unknown,
+            1 => Some(Step::Format),
+            2 => Some(Step::Add),
+            3 => Some(Step::Update),
+            4 => Some(Step::RawUpdate),
+            5 => Some(Step::Find),
+            6 => Some(Step::Value),
+            7 => Some(Step::BackupRead),
+            8 => Some(Step::Distance),
+            9 => Some(Step::Poke),
+            _ => None,
         }
     }
 
+    // What a step has: counts by cases, and no step is run by them.
     // How many words a record has behind its opcode.
     pub fn arguments(self) -> usize
         ensures { (result ≡ arguments_of self) × (result ≤ 3) }
     {
         match self {
-            Step::Format => 1,
-            Step::Add => 2,
-            Step::Update => 2,
+            Step::Format | Step::Find | Step::Value | Step::BackupRead => 1,
+            Step::Add | Step::Update | Step::Distance | Step::Poke => 2,
             Step::RawUpdate => 3,
-            Step::Find => 1,
-            Step::Value => 1,
-            Step::BackupRead => 1,
-            Step::Distance => 2,
-            Step::Poke => 2,
         }
     }
 
     // How many byte strings. Their lengths are the last of the arguments.
     pub fn strings(self) -> usize
-        ensures { result ≡ strings_of self }
+        ensures { (result ≡ strings_of self) × (result ≤ arguments_of self) }
     {
         match self {
-            Step::Format => 0,
-            Step::Add => 2,
-            Step::Update => 2,
-            Step::RawUpdate => 2,
+            Step::Add | Step::Update | Step::RawUpdate => 2,
             Step::Find => 1,
-            Step::Value => 0,
-            Step::BackupRead => 0,
-            Step::Distance => 0,
-            Step::Poke => 0,
+            _ => 0,
         }
     }
 
@@ -80,15 +64,10 @@ impl Step {
         ensures { (result ≡ answers_of self) × (result ≤ 3) }
     {
         match self {
-            Step::Format => 1,
-            Step::Add => 1,
-            Step::Update => 1,
-            Step::RawUpdate => 1,
-            Step::Find => 3,
-            Step::Value => 3,
+            Step::Find | Step::Value => 3,
             Step::BackupRead => 2,
-            Step::Distance => 1,
             Step::Poke => 0,
+            _ => 1,
         }
     }
 
@@ -96,17 +75,7 @@ impl Step {
     pub fn is_call(self) -> bool
         ensures { result ≡ is_call self }
     {
-        match self {
-            Step::Format => true,
-            Step::Add => true,
-            Step::Update => true,
-            Step::RawUpdate => true,
-            Step::Find => true,
-            Step::Value => true,
-            Step::BackupRead => true,
-            Step::Distance => true,
-            Step::Poke => false,
-        }
+        !matches!(self, Step::Poke)
     }
 
     // How many bytes of the space are the area while the step is made: a format says it, the others keep it.
@@ -115,14 +84,7 @@ impl Step {
     {
         match self {
             Step::Format => first as usize,
-            Step::Add => size,
-            Step::Update => size,
-            Step::RawUpdate => size,
-            Step::Find => size,
-            Step::Value => size,
-            Step::BackupRead => size,
-            Step::Distance => size,
-            Step::Poke => size,
+            _ => size,
         }
     }
 
@@ -131,21 +93,29 @@ impl Step {
         ensures { result ≡ wanted_of self first }
     {
         match self {
-            Step::Format => 0,
-            Step::Add => 0,
-            Step::Update => 0,
-            Step::RawUpdate => 0,
-            Step::Find => 0,
-            Step::Value => 0,
             Step::BackupRead => first as usize,
-            Step::Distance => 0,
-            Step::Poke => 0,
+            _ => 0,
         }
     }
 }
 
+// How the vectors end.
+#[derive(Clone, Copy, Debug, PartialEq, Eq)]
+pub enum End {
+    // With the last of their records.
+    Whole,
+    // Within a record.
+    Cut,
+    // With an opcode that no step has.
+    Unknown,
+    // With a record that asks for more than the lent buffers hold.
+    NoRoom,
+    // Bytes are left behind the last record.
+    Surplus,
+}
+
 // Where the parts of a record stand. Its byte strings are vectors[strings..middle] and vectors[middle..answers].
-#[derive(Clone, Copy)]
+#[derive(Clone, Copy, Debug)]
 pub struct Parts {
     pub step: Step,
     // The first two arguments, 0 where there are fewer.
@@ -157,17 +127,8 @@ pub struct Parts {
     pub checksum: usize,
 }
 
-// What stands at a place of the vectors.
-#[derive(Clone, Copy)]
-pub enum Reading {
-    Record(Parts),
-    // The vectors end within the record.
-    Cut,
-    // No step has its opcode.
-    Unknown,
-}
-
-// One of some words that stand from a place on, or 0 where there are fewer.
+// One of some words that stand from a place on, or 0 where there are fewer: so the answers and arguments of every record are three words and two.
+#[tactic(auto, unfolding(crate::specs::Records::word_of))]
 pub fn word_of(vectors: &[u8], from: usize, count: usize, index: usize) -> u32
     requires { from + 4 * count ≤ length vectors.now }
     ensures { result ≡ word_of vectors.now from count index }
@@ -179,13 +140,15 @@ pub fn word_of(vectors: &[u8], from: usize, count: usize, index: usize) -> u32
 }
 
 // The record of a step, whose arguments begin at a place.
-fn read_parts(vectors: &[u8], step: Step, from: usize) -> Reading
+#[tactic(auto, unfolding(crate::specs::Records::parts_at))]
+fn read_parts(vectors: &[u8], step: Step, from: usize) -> Result<Parts, End>
     requires { from ≤ length vectors.now }
-    ensures { result ≡ read_parts vectors.now (parts_at vectors.now step from) }
+    ensures value { result ≡ read_parts vectors.now (parts_at vectors.now step from) }
+    ensures lies { IfOk result (λ p. (from ≤ p.strings) × Lies vectors.now p) }
 {
     let arguments = step.arguments();
     if vectors.len() - from < 4 * arguments {
-        return Reading::Cut;
+        return Err(End::Cut);
     }
     let strings = from + 4 * arguments;
     let count = step.strings();
@@ -194,11 +157,11 @@ fn read_parts(vectors: &[u8], step: Step, from: usize) -> Reading
     let other = word_of(vectors, lengths, count, 1) as usize;
     let expected = 4 * step.answers();
     if vectors.len() - strings < one + other + expected + 4 {
-        return Reading::Cut;
+        return Err(End::Cut);
     }
     let middle = strings + one;
     let answers = middle + other;
-    Reading::Record(Parts {
+    Ok(Parts {
         step,
         first: word_of(vectors, from, arguments, 0),
         second: word_of(vectors, from, arguments, 1),
@@ -209,18 +172,15 @@ fn read_parts(vectors: &[u8], step: Step, from: usize) -> Reading
     })
 }
 
-// The record that begins at a place.
-pub fn read_record(vectors: &[u8], at: usize) -> Reading
-    ensures { result ≡ read_record vectors.now at }
+// The record that begins at a place, or how the vectors end there.
+#[tactic(auto, unfolding(crate::specs::Records::read_record))]
+pub fn read_record(vectors: &[u8], at: usize) -> Result<Parts, End>
+    ensures value { result ≡ read_record vectors.now at }
+    ensures lies { IfOk result (λ p. (at < p.strings) × Lies vectors.now p) }
 {
-    if vectors.len() < 4 {
-        return Reading::Cut;
+    if vectors.len() < 4 || vectors.len() - 4 < at {
+        return Err(End::Cut);
     }
-    if vectors.len() - 4 < at {
-        return Reading::Cut;
-    }
-    match Step::of(words::word(vectors, at)) {
-        Opcode::Of(step) => read_parts(vectors, step, at + 4),
-        Opcode::Unknown => Reading::Unknown,
-    }
+    let step = Step::of(words::word(vectors, at)).ok_or(End::Unknown)?;
+    read_parts(vectors, step, at + 4)
 }

@@ -1,30 +1,23 @@
 // All records, one after the other.
-ghost use Rattle.std.specs.Prelude.{◌≡◌, ◌≤◌, ◌<◌, length};
-ghost use Rattle.replay.specs.Replay.{one_if, nothing, count_record, Fair, end_at, replay_from, replay_steps};
+ghost use Rattle.std.specs.Prelude.{◌≡◌, ◌<◌, length};
+ghost use Rattle.replay.specs.Replay.{nothing, count_record, Fair, end_at, replay_from, replay_steps};
 
-use crate::turns::{End, Turn, play_at};
+use crate::records::End;
+use crate::turns::play_at;
 
 // How many records were replayed, how many of their steps are calls, and how many records differ in an answer or in the area's bytes.
-#[derive(Clone, Copy)]
+#[derive(Clone, Copy, Debug, PartialEq, Eq)]
 pub struct Tally {
     pub records: u32,
     pub calls: u32,
     pub differences: u32,
 }
 
-#[derive(Clone, Copy)]
+// The records before the end were counted, whatever the end is.
+#[derive(Clone, Copy, Debug, PartialEq, Eq)]
 pub struct Report {
     pub tally: Tally,
     pub end: End,
-}
-
-fn one_if(b: bool) -> u32
-    ensures { (result ≡ one_if b) × (result ≤ 1) }
-{
-    if b {
-        return 1;
-    }
-    0
 }
 
 impl Tally {
@@ -38,14 +31,16 @@ impl Tally {
         }
     }
 
+    #[tactic(auto, unfolding(crate::specs::Replay::count_record))]
     fn counted(self, call: bool, agrees: bool) -> Tally
         requires { (self.records < 0xffff_ffff) × (Fair self) }
-        ensures { result ≡ count_record self call agrees }
+        ensures value { result ≡ count_record self call agrees }
+        ensures fair { Fair result }
     {
         Tally {
             records: self.records + 1,
-            calls: self.calls + one_if(call),
-            differences: self.differences + one_if(!agrees),
+            calls: self.calls + u32::from(call),
+            differences: self.differences + u32::from(!agrees),
         }
     }
 }
@@ -55,34 +50,28 @@ fn end_at(vectors: &[u8], at: usize) -> End
     ensures { result ≡ end_at vectors.now at }
 {
     if at == vectors.len() {
-        return End::Whole;
+        End::Whole
+    } else {
+        End::Surplus
     }
-    End::Surplus
 }
 
-// Replays so many records.
+// Replays so many records. Space and buffer are lent apart, since each record takes a part of each.
 fn replay_records(vectors: &[u8], count: u32, space: &mut [u8], buffer: &mut [u8]) -> Report
     ensures { result ≡ replay_from vectors.now (length buffer.old) count 4 0 space.old nothing }
 {
     let mut tally = Tally::nothing();
-    let mut left = count;
     let mut at = 4;
     let mut size = 0;
-    while 0 < left {
+    for done in 0..count {
         match play_at(vectors, at, size, space, buffer) {
-            Turn::Stopped(end) => return Report { tally, end },
-            Turn::Done {
-                next,
-                size: n,
-                call,
-                agrees,
-            } => {
-                tally = tally.counted(call, agrees);
-                at = next;
-                size = n;
+            Ok(turn) => {
+                tally = tally.counted(turn.call, turn.agrees);
+                at = turn.next;
+                size = turn.size;
             }
+            Err(end) => return Report { tally, end },
         }
-        left -= 1;
     }
     Report {
         tally,
@@ -91,6 +80,7 @@ fn replay_records(vectors: &[u8], count: u32, space: &mut [u8], buffer: &mut [u8
 }
 
 // Replays vectors, with the area in the first bytes of the space, and backup reads into the first bytes of the buffer.
+#[tactic(auto, unfolding(crate::specs::Replay::replay_steps))]
 pub fn replay(vectors: &[u8], space: &mut [u8], buffer: &mut [u8]) -> Report
     ensures { result ≡ replay_steps vectors.now (length space.old) (length buffer.old) }
 {
@@ -100,6 +90,6 @@ pub fn replay(vectors: &[u8], space: &mut [u8], buffer: &mut [u8]) -> Report
             end: End::Cut,
         };
     }
-    words::clear(space);
+    space.fill(0);
     replay_records(vectors, words::word(vectors, 0), space, buffer)
 }

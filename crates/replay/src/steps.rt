@@ -8,11 +8,11 @@ ghost use Rattle.replay.specs.Steps.{answers, found_reply, part_reply, filler, b
 
 use crate::checksum::adler32;
 use crate::records::{Parts, Step};
-use layout::Verdict;
-use property_area::{AreaPart, Found};
+use layout::{Refusal, Span};
+use property_area::Found;
 
 // What a step answers, in the order in which a record has it; 0 where there are fewer than three.
-#[derive(Clone, Copy)]
+#[derive(Clone, Copy, Debug, PartialEq, Eq)]
 pub struct Answers {
     pub first: u32,
     pub second: u32,
@@ -32,10 +32,10 @@ impl Answers {
 }
 
 // A verdict's number alone.
-fn alone(verdict: Verdict) -> Answers
+fn alone(verdict: Result<(), Refusal>) -> Answers
     ensures { result ≡ answers (verdict_number verdict) 0 0 }
 {
-    Answers::one(verdict.number())
+    Answers::one(layout::verdict_number(verdict))
 }
 
 // The entry of a name, and the low word of the count of nodes compared.
@@ -43,12 +43,12 @@ fn found(area: &[u8], name: &[u8]) -> Answers
     ensures { result ≡ found_reply (find_steps area.now name.now) }
 {
     match property_area::find(area, name) {
-        Found::Entry { offset, compared } => Answers {
+        Ok(Found { offset, compared }) => Answers {
             first: 0,
             second: offset,
             third: (compared % 0x1_0000_0000) as u32,
         },
-        Found::Refused(why) => Answers::one(why.number()),
+        Err(why) => Answers::one(why.number()),
     }
 }
 
@@ -57,12 +57,12 @@ fn valued(area: &[u8], entry: u32) -> Answers
     ensures { result ≡ part_reply (value_steps area.now entry) }
 {
     match property_area::value(area, entry) {
-        AreaPart::Bytes { from, to } => Answers {
+        Ok(Span { from, to }) => Answers {
             first: 0,
             second: from as u32,
             third: (to - from) as u32,
         },
-        AreaPart::Refused(why) => Answers::one(why.number()),
+        Err(why) => Answers::one(why.number()),
     }
 }
 
@@ -73,26 +73,23 @@ const FILLER: u8 = 0xee;
 fn backup(area: &[u8], buffer: &mut [u8]) -> Answers
     ensures { result ≡ backup_answers (backup_steps area.now (replicate (length buffer.old) filler)) }
 {
-    words::flood(buffer, FILLER);
+    buffer.fill(FILLER);
     let verdict = property_area::read_dirty_backup(area, buffer);
     Answers {
-        first: verdict.number(),
+        first: layout::verdict_number(verdict),
         second: adler32(buffer),
         third: 0,
     }
 }
 
 // Stores a word at a place counted from the area's first byte, if it lies within the area.
+#[tactic(auto, unfolding(crate::specs::Steps::poked))]
 fn poke(area: &mut [u8], at: usize, word: u32)
     ensures { area.new ≡ poked area.old at word }
 {
-    if area.len() < 4 {
-        return;
+    if 4 <= area.len() && at <= area.len() - 4 {
+        words::put_word(area, at, word);
     }
-    if area.len() - 4 < at {
-        return;
-    }
-    words::put_word(area, at, word);
 }
 
 // Makes the step of a record, with its byte strings.
@@ -105,8 +102,8 @@ pub fn perform(
 ) -> Answers
     ensures { plays result area.new ≡ play_step parts.step parts.first parts.second one.now other.now area.old (length buffer.old) }
 {
-    let step = parts.step;
-    match step {
+    // The steps are known, and each takes other arguments: a match on them is plainer than closures.
+    match parts.step {
         Step::Format => alone(builder::format(area)),
         Step::Add => alone(builder::add(area, one, other)),
         Step::Update => alone(updates::update(area, one, other)),

@@ -1,5 +1,8 @@
 -- The serial that an update leaves: as code computes it, and by its bits: those that count, the one that says long, those above it, and the length.
 use Rattle.std.proofs.Common.{◌≡◌, ℕ, ◌+◌, ◌-◌, ◌*◌, ◌/◌, ◌%◌, ◌^◌, ◌<◌, ap, ◌∙◌, arith}
+use Rattle.std.proofs.Common.{Bool, true, false, ◌==◌, sym}
+use Rattle.std.proofs.lemmas.Bool.{eqb-true, eqb-false}
+use Rattle.std.specs.Int.{from_bool}
 use native.Mathlib.Nat.{div-div-eq-div-mul}
 use Rattle.serials.specs.Serial.{long_bit, length_unit, long_in, odd_in, length_in, dirty, counter_bits, updated_serial, short_serial, positions, position}
 
@@ -10,10 +13,15 @@ counter-wraps n =
     let f : long_in (n % 2 ^ 32) ≡ long_in n = omega arith in
     rw (e, f)
 
-pub next-serial : (serial size counter : ℕ) → counter ≡ (dirty serial + 1) % 2 ^ 32 → (bit : ℕ) → bit ≡ long_in counter → (top : ℕ) → top ≡ short_serial size
-    → counter % length_unit - bit * long_bit + top ≡ updated_serial serial size
+-- the bit that says long, from its test
+long-bit : (n : ℕ) (long : Bool) → long ≡ (long_in n == 1) → from_bool long ≡ long_in n
+long-bit n true e = sym (eqb-true (long_in n) 1 (sym e))
+long-bit n false e = omega (arith, eqb-false (long_in n) 1 (sym e))
+
+pub next-serial : (serial size counter : ℕ) → counter ≡ (dirty serial + 1) % 2 ^ 32 → (long : Bool) → long ≡ (long_in counter == 1) → (top : ℕ) → top ≡ short_serial size
+    → counter % length_unit - from_bool long * long_bit + top ≡ updated_serial serial size
 unfolding updated_serial
-next-serial serial size counter e bit f top g = rw (f, g, e) (rw (counter-wraps (dirty serial + 1)))
+next-serial serial size counter e long f top g = rw (g, long-bit counter long f, e) (rw (counter-wraps (dirty serial + 1)))
 
 -- ---- its bits
 pub counter-low : (n size : ℕ) → (counter_bits n + short_serial size) % long_bit ≡ n % long_bit

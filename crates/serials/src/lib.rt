@@ -16,18 +16,11 @@ const LENGTH_UNIT: u32 = 0x0100_0000;
 // How many positions there are: they go round.
 pub const POSITIONS: u32 = 32_768;
 
-// The bit that tells a long entry: 1 for a long one, 0 for a short one.
-fn long_in(serial: u32) -> u32
-    ensures { result ≡ long_in serial }
-{
-    serial / LONG_FLAG % 2
-}
-
 // Whether the serial is a long entry's.
 pub fn says_long(serial: u32) -> bool
     ensures { result ≡ (long_in serial == 1) }
 {
-    long_in(serial) == 1
+    serial / LONG_FLAG % 2 == 1
 }
 
 // The serial of a short entry, of its value's length.
@@ -57,8 +50,8 @@ pub fn next_serial(serial: u32, size: usize) -> u32
     requires { size < slot_size }
     ensures { result ≡ updated_serial serial size }
 {
-    let counter = std::num::wrapping_add_u32(dirty_serial(serial), 1);
-    counter % LENGTH_UNIT - long_in(counter) * LONG_FLAG + short_serial(size)
+    let counter = dirty_serial(serial).wrapping_add(1);
+    counter % LENGTH_UNIT - u32::from(says_long(counter)) * LONG_FLAG + short_serial(size)
 }
 
 // The position of a serial: its update count, kept above the dirty bit in the low half.

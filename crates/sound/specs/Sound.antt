@@ -1,8 +1,8 @@
 -- Soundness (RULES 6): the one definition that check, listing and history cite.
 use Rattle.std.specs.Prelude.{ℕ, ◌+◌, ◌-◌, ◌*◌, ◌%◌, ◌≤◌, ◌<◌, ◌≡◌, ◌≢◌, true, List, [], ◌∷◌, ◌++◌, length, get_or}
 use Rattle.names.specs.Names.{dot, segment_order}
-use Rattle.names.specs.declared.Order.{Order}
-use Rattle.names.specs.declared.Order.TheVariants.{Less, Greater}
+use Rattle.std.specs.declared.cmp.Ordering.{Ordering}
+use Rattle.std.specs.declared.cmp.Ordering.TheVariants.{Less, Greater}
 use Rattle.layout.specs.Layout.{word_size, used_field, node_size, entry_size, serial_field, slot_field, slot_size, long_offset_field, root_at, children_field, first_free, data_size, byte_of, place_of, header_word, word_at, entry_takes}
 use Rattle.serials.specs.Serial.{long_in}
 use Rattle.trie.specs.Header.{header_ok}
@@ -66,7 +66,7 @@ EntryRule path bare = Unit {0}
 EntryRule path (entry at serial name value) = (name ≡ path) × (at % word_size ≡ 0) × ValueRule at serial name value
 
 -- every name of a side, reached by left and right alone, is so ordered against a name
-unfoldable pub Side : Order → List ℕ → Tree → Type 0
+unfoldable pub Side : Ordering → List ℕ → Tree → Type 0
 Side order name leaf = Unit {0}
 Side order name (node at other own left below right) = (segment_order other name ≡ order) × Side order name left × Side order name right
 

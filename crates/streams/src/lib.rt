@@ -1,4 +1,4 @@
-// Bytes of a reader into a buffer, and bytes and numbers to standard output.
+// Bytes of a reader into a buffer, and bytes to standard output.
 #![tactic(auto)]
 
 ghost use Rattle.io.specs.Counts.{IsPrefixLen};
@@ -10,11 +10,11 @@ pub fn read_full<R: Read>(input: &mut R, buf: &mut [u8]) -> usize
     ensures { IsPrefixLen result buf.new }
 {
     let mut done = 0;
+    // A loop over reads: `read_exact` says nothing of a buffer that the input does not fill.
     while done < buf.len() {
         match input.read(&mut buf[done..]) {
-            Ok(0) => return done,
+            Ok(0) | Err(_) => break,
             Ok(size) => done += size,
-            Err(_) => return done,
         }
     }
     done
@@ -23,9 +23,4 @@ pub fn read_full<R: Read>(input: &mut R, buf: &mut [u8]) -> usize
 // Bytes to standard output. What cannot be written is lost, and nothing stops at it.
 pub fn print(rt: &HostRuntime, text: &[u8]) {
     let _ = rt.write_all(text);
-}
-
-// A number to standard output, in decimal.
-pub fn print_number(rt: &HostRuntime, n: usize) {
-    let _ = rt.print(n);
 }

@@ -1,17 +1,17 @@
--- A piece fed to a line: what the line has then, where it ended, and when two such answers are one.
+-- A piece fed to a line: what the line has then, where it ended, and when two answers of the code are one.
 use Prim.Native.Nat.{ℕ, ◌+◌, ◌-◌, min, ◌≤◌}
-use mathlib.Core.Path.{◌≡◌, sym, ◌∙◌}
+use mathlib.Core.Path.{◌≡◌, refl, sym, ◌∙◌}
 use mathlib.Core.Bool.{Bool, true, false}
 use mathlib.Core.List.{List, ◌++◌}
 use native.Mathlib.Omega.{arith}
 use borrow.Author.Tests.{ltb-true, ltb-false}
+use Rattle.std.specs.Prelude.{Option, Some, None}
 use lib.ListN.{length, get_or, take, length-take}
 use lib.Seq.{length-take-le, take-append-add}
 use Rattle.words.specs.Words.{put}
-use Rattle.words.proofs.Laws.{first-high}
+use Rattle.words.proofs.Laws.{first-high, clash}
 use Rattle.words.proofs.Promises.{first-there}
-use Rattle.texts.specs.Text.{saying, said, line_feed, piece_end, fed, feed}
-use Rattle.texts.specs.declared.Piece.{Piece}
+use Rattle.texts.specs.Text.{Said, saying, said, line_feed, piece_end, fed, feed, fed_answer}
 use Rattle.texts.proofs.Laws.{put-cut, put_front, fed-parts}
 
 -- ---- a line has what it had and the piece, as far as they fit
@@ -42,10 +42,16 @@ module _ (input : List ℕ) (from : ℕ) (line : List ℕ) (have has next : ℕ)
         ltb-false (piece_end input from) (length input) (sym (fed-parts input from line have e).2 ∙ n),
       )
 
--- ---- two answers of the same parts are one
-pub same-piece : (r s : Piece) → r.have ≡ s.have → r.next ≡ s.next → r.ended ≡ s.ended → r ≡ s
-same-piece r s = one r.have s.have r.next s.next r.ended s.ended
-  where
-    one : (t u m n : ℕ) (v w : Bool) → t ≡ u → m ≡ n → v ≡ w
-        → ◌≡◌ {A = Piece} (record { have = t; next = m; ended = v }) (record { have = u; next = n; ended = w })
-    one t u m n v w g h k = rw (g, h, k)
+-- ---- two answers that say the same are one
+pub same-answer : (input : List ℕ) (line held : Said) (r s : Option ℕ) → fed_answer input line r ≡ fed_answer input held s → r ≡ s
+same-answer input line held (Some n) (Some k) e = cc
+same-answer input line held (Some n) None e = clash cc
+same-answer input line held None (Some k) e = clash cc
+same-answer input line held None None e = refl
+
+-- the lines of two such answers are one, too
+pub same-line : (input : List ℕ) (line held : Said) (r s : Option ℕ) → fed_answer input line r ≡ fed_answer input held s → line ≡ held
+same-line input line held (Some n) (Some k) e = cc
+same-line input line held (Some n) None e = clash cc
+same-line input line held None (Some k) e = clash cc
+same-line input line held None None e = cc

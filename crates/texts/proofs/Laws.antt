@@ -1,57 +1,21 @@
 -- Laws of specs/Text.antt, for each way out of the code: which bytes are shown, digits, a byte's stores, a turn of the escaping loop, a piece fed;
 -- and what is promised of texts: where they stand, how long they are.
-use Prim.Native.Nat.{ℕ, zero, suc, ◌+◌, ◌-◌, ◌*◌, ◌/◌, ◌%◌, min, ◌≤◌, ◌<◌}
+use Prim.Native.Nat.{ℕ, zero, suc, ◌+◌, ◌-◌, ◌*◌, min, ◌≤◌, ◌<◌}
 use mathlib.Core.Path.{◌≡◌, refl, sym, ap, ◌∙◌}
-use mathlib.Core.Bool.{Bool, true, false, not}
+use mathlib.Core.Bool.{Bool, true, false}
 use mathlib.Core.List.{List, [], ◌∷◌, ◌++◌, append_assoc, append-nil}
-use native.Mathlib.Nat.{zero-add, add-zero, add_assoc, sub_self}
+use native.Mathlib.Nat.{add-zero, sub_self}
 use native.Mathlib.Numerals.{add-one}
 use native.Mathlib.Omega.{arith}
-use borrow.Author.Tests.{lt-ltb, le-ltb, le-leb, lt-leb, leb-true, leb-false}
-use lib.Dec.{eqb, leb, ltb}
-use lib.ListN.{length, get_or, set, take, drop, length-append, length-set, drop_of_length-le}
-use lib.Seq.{append_snoc, take-suc-set, take_all, drop-cons, set_out}
+use borrow.Author.Tests.{lt-ltb, le-ltb, leb-true, leb-false}
+use lib.Dec.{leb, ltb}
+use lib.ListN.{length, get_or, set, take, length-append, length-set}
+use lib.Seq.{append_snoc, take-suc, take-suc-set, take_all, set_out}
 use Rattle.words.specs.Words.{part, put}
 use Rattle.words.proofs.Laws.{bool_cases, put-length, first-end, first-low, first-high}
 use Rattle.words.proofs.StoreLaws.{put-append}
-use Rattle.texts.specs.Text.{backslash, prints_as_is, hex_digit, escaped_byte, escaped, saying, said, line_feed, piece_end, fed, feed}
-
--- ---- bytes that print as they are
-pub shown-low : (b : ℕ) → b < 0x20 → false ≡ prints_as_is b
-shown-low b h = rw (lt-leb 0x20 b h)
-
-pub shown-high : (b : ℕ) → 0x20 ≤ b → 0x7e < b → false ≡ prints_as_is b
-shown-high b h k = rw (le-leb 0x20 b h, lt-leb b 0x7e k)
-
-pub shown-between : (b : ℕ) → 0x20 ≤ b → b ≤ 0x7e → not (eqb b backslash) ≡ prints_as_is b
-shown-between b h k = rw (le-leb 0x20 b h, le-leb b 0x7e k)
-
--- ---- hex digits
-pub digit_low : (d : ℕ) → d < 10 → 48 + d ≡ hex_digit d
-digit_low d h = rw (lt-ltb d 10 h)
-
-pub digit-high : (d : ℕ) → 10 ≤ d → 87 + d ≡ hex_digit d
-digit-high d h = rw (le-ltb d 10 h)
-
--- ---- a byte's stores, and the next place
-module _ (s : List ℕ) (at b : ℕ) where
-  pub put-shown : true ≡ prints_as_is b → (at + 1 ≡ at + length (escaped_byte b)) × (at + 1 ≤ at + 4) × (set s at b ≡ put s at (escaped_byte b))
-  unfolding escaped_byte put
-  put-shown h = rw (← h) (refl, omega arith, refl)
-
-  pub put-hidden : false ≡ prints_as_is b → (high low : ℕ) → high ≡ hex_digit (b / 16) → low ≡ hex_digit (b % 16)
-      → (at + 4 ≡ at + length (escaped_byte b)) × (at + 4 ≤ at + 4) × (set (set (set (set s at backslash) (at + 1) 120) (at + 2) high) (at + 3) low ≡ put s at (escaped_byte b))
-  unfolding escaped_byte put
-  put-hidden h high low e f = rw (← h, e, f) (refl, omega arith, simp add_assoc)
-
--- ---- how many there are
-pub shown-size : (b : ℕ) → true ≡ prints_as_is b → 1 ≡ length (escaped_byte b)
-unfolding escaped_byte
-shown-size b h = rw (← h)
-
-pub hidden-size : (b : ℕ) → false ≡ prints_as_is b → 4 ≡ length (escaped_byte b)
-unfolding escaped_byte
-hidden-size b h = rw (← h)
+use Rattle.texts.specs.Text.{prints_as_is, escaped_byte, escaped, saying, said, Says, line_feed, piece_end, fed, feed}
+use Rattle.texts.specs.declared.Page.{Page}
 
 -- ---- what is put behind a buffer's end is dropped
 pub put-past : (s : List ℕ) (at : ℕ) (bs : List ℕ) → length s ≤ at → put s at bs ≡ s
@@ -125,6 +89,10 @@ pub said-then : (out : List ℕ) (at : ℕ) (a b : List ℕ) {next last : ℕ} {
     → saying last end ≡ said out at (a ++ b)
 said-then out at a b {next} {last} {after} {end} e f = f ∙ said-append out at a b next after e
 
+pub says-then : {before mid after : Page} (a b : List ℕ) → Says before mid a → Says mid after b → Says before after (a ++ b)
+says-then {before} a b s t =
+    record { same_buffer = t.same_buffer ∙ s.same_buffer; said = said-then before.out.now before.at a b s.said t.said }
+
 -- ---- a text that fits stands there whole, behind what stood before it
 pub put_front : (s : List ℕ) (at : ℕ) (bs : List ℕ) → at + length bs ≤ length s → take (at + length bs) (put s at bs) ≡ take at s ++ bs
 unfolding put
@@ -157,48 +125,19 @@ unfolding escaped
 escaped-few [] = omega arith
 escaped-few (b ∷ bs) = omega (arith, length-append (escaped_byte b) (escaped bs), byte-few b, escaped-few bs)
 
--- ---- a turn of escaping: a place past the end is the end; one byte more; none left
-module _ (s : List ℕ) (b size : ℕ) (after : List ℕ) (l : length s ≡ 4) (e : size ≡ 0 + length (escaped_byte b)) (p : after ≡ put s 0 (escaped_byte b)) where
-  pub byte-there : take size after ≡ escaped_byte b
-  byte-there = rw (e, p) (put_front s 0 (escaped_byte b) (omega (arith, byte-few b)))
-
-  pub byte-count : size ≡ length (take size after)
-  byte-count = rw byte-there (e ∙ zero-add (length (escaped_byte b)))
-
-  pub byte-place : length after ≡ 4
-  byte-place = rw p (put-length s 0 (escaped_byte b) ∙ l)
-
-module _ (text out : List ℕ) (next : ℕ) where
-  pub said-from : (at : ℕ) → next ≡ min at (length out) → said out at text ≡ said out next text
-  unfolding said
-  said-from at n =
-      bool_cases (leb at (length out))
-      (λ t. let h : next ≡ at = omega (arith, leb-true at (length out) t) in rw h)
-      (λ t.
-      let h : length out < at = leb-false at (length out) t in
-      let m : min (at + length text) (length out) ≡ min (next + length text) (length out) = omega arith in
-      rw (m, put-past out at text (omega arith), put-past out next text (omega arith)))
-
-  pub said-byte : (taken : ℕ) → taken < length text → (n : ℕ) (after bytes : List ℕ) → bytes ≡ escaped_byte (get_or text taken 0) → saying n after ≡ said out next bytes
-      → said out next (escaped (drop taken text)) ≡ said after n (escaped (drop (taken + 1) text))
-  unfolding escaped
-  said-byte taken h n after bytes e f = rw (drop-cons text taken 0 h, add-one) (sym (said-append out next (escaped_byte (get_or text taken 0)) (escaped (drop (suc taken) text)) n after (rw e at f)))
-
-  pub said-end : (taken : ℕ) → length text ≤ taken → next ≤ length out → saying next out ≡ said out next (escaped (drop taken text))
-  unfolding escaped
-  said-end taken h k = rw (drop_of_length-le text {i = taken} h) (said-none out next k)
+-- ---- a text said escaped, byte by byte: one more
+pub says-more : {before mid after : Page} (text : List ℕ) (i : ℕ) → i < length text → Says before mid (escaped (take i text)) → Says mid after (escaped_byte (get_or text i 0))
+    → Says before after (escaped (take (i + 1) text))
+unfolding escaped
+says-more text i h s t =
+    rw (add-one, take-suc text i 0 h, escaped-append (take i text) (get_or text i 0 ∷ []), append-nil) (says-then (escaped (take i text)) (escaped_byte (get_or text i 0)) s t)
 
 -- ---- a piece ends no earlier than it starts, and within the input
-module _ (input : List ℕ) (start end : ℕ) where
-  pub end_low : end ≡ piece_end input start → start ≤ end
-  end_low e = rw e (first-low line_feed input start (length input - start))
-
-  pub end-high : start ≤ length input → end ≡ piece_end input start → end ≤ length input
-  end-high a e = rw e (omega (arith, first-high line_feed input start (length input - start)))
+pub ruleset pieces = (first-low, first-high)
 
 -- said behind what the line has, it is fed; from past the input's end on it is empty
 module _ (input : List ℕ) (from : ℕ) (line : List ℕ) (have : ℕ) where
-  pub feed-says : (start end has next : ℕ) (after : List ℕ) → start ≡ min from (length input) → end ≡ piece_end input start
+  feed-says : (start end has next : ℕ) (after : List ℕ) → start ≡ min from (length input) → end ≡ piece_end input start
       → saying has after ≡ said line have (part input start end) → next ≡ min (end + 1) (length input)
       → fed (saying has after) next (ltb end (length input)) ≡ feed input from line have
   unfolding feed
@@ -211,6 +150,13 @@ module _ (input : List ℕ) (from : ℕ) (line : List ℕ) (have : ℕ) where
       let c : piece_end input from ≡ from = first-end line_feed input from (length input) (omega arith) in
       let m : next ≡ min (from + 1) (length input) = omega arith in
       rw (f, m, b, c, le-ltb start (length input) (omega arith), le-ltb from (length input) (omega arith), sub_self start, sub_self from))
+
+  module _ (start end has : ℕ) (after : List ℕ) (s : start ≡ min from (length input)) (e : end ≡ piece_end input start) (f : saying has after ≡ said line have (part input start end)) where
+    pub feed-ends : end < length input → fed (saying has after) (end + 1) true ≡ feed input from line have
+    feed-ends h = rw (lt-ltb end (length input) h) at (feed-says start end has (end + 1) after s e f (omega arith))
+
+    pub feed-goes : length input ≤ end → fed (saying has after) (length input) false ≡ feed input from line have
+    feed-goes h = rw (le-ltb end (length input) h) at (feed-says start end has (length input) after s e f (omega arith))
 
   -- and what is fed, part by part
   pub fed-parts : {has next : ℕ} {ended : Bool} {after : List ℕ} → fed (saying has after) next ended ≡ feed input from line have

@@ -1,18 +1,18 @@
 -- Laws of `decimal`: a number's last digit stands behind the digits of what is left of it, found from the last one on;
 -- how many digits there are, and what they mean.
 use Prim.Native.Nat.{ℕ, zero, suc, ◌+◌, ◌-◌, ◌*◌, ◌/◌, ◌%◌, ◌^◌, ◌≤◌, ◌<◌}
-use mathlib.Core.Path.{◌≡◌, refl, sym, ◌∙◌}
+use mathlib.Core.Path.{◌≡◌, refl, ◌∙◌}
 use mathlib.Core.Bool.{cond}
 use mathlib.Core.List.{List, [], ◌∷◌, ◌++◌}
 use native.Mathlib.Nat.{pow-suc, div-lt_iff_lt-mul}
 use native.Mathlib.Omega.{arith}
 use native.Mathlib.Decide.{dec_lt}
-use borrow.Author.Tests.{lt-ltb, le-ltb, ltb-true, ltb-false}
+use borrow.Author.Tests.{le-ltb, ltb-true, ltb-false}
 use lib.Dec.{ltb}
-use lib.ListN.{length, get_or, set, take, drop, length-append, length-set, length-drop, get_or-append}
-use lib.Seq.{append_snoc, take_all, drop-cons, drop-set-lt, get_or-set_same, get_or-append-add}
+use lib.ListN.{length, get_or, set, drop, length-append, length-set, get_or-append}
+use lib.Seq.{append_snoc, drop-cons, drop-set-lt, get_or-set_same, get_or-append-add}
 use Rattle.words.proofs.Laws.{bool_cases}
-use Rattle.texts.specs.Text.{digit, decimal_in, digits_max, decimal}
+use Rattle.texts.specs.Text.{digit, decimal_in, decimal}
 
 -- the digits above a number's last one
 abbrev pub above : ℕ → ℕ → List ℕ
@@ -32,7 +32,7 @@ splits more n =
 stores : (s : List ℕ) (k n b : ℕ) → k < length s → b ≡ digit (n % 10) → decimal_in (suc k) n ++ drop (suc k) s ≡ above k n ++ drop k (set s k b)
 stores s k n b h e = rw (splits k n, stored s k b h, e) (append_snoc (above k n) (digit (n % 10)) (drop (suc k) s))
 
--- ---- the last digit; one digit more, where there are more; none left
+-- ---- the last digit; one digit more, where there are more
 pub digits-start : (n b : ℕ) → b ≡ digit (n % 10) → decimal n ≡ above 19 n ++ b ∷ []
 digits-start n b e = rw e (splits 19 n)
 
@@ -43,11 +43,6 @@ module _ (s : List ℕ) (from rest : ℕ) (text : List ℕ) (e : text ≡ above 
       let more : text ≡ decimal_in from (rest / 10) ++ drop from s = rw (le-ltb rest 10 h) at e in
       let again : text ≡ decimal_in (suc (from - 1)) (rest / 10) ++ drop (suc (from - 1)) s = rw k at more in
       again ∙ stores s (from - 1) (rest / 10) b (omega arith) d
-
-  pub digits-end : length s ≡ digits_max → rest < 10 → take (digits_max - from) (drop from s) ≡ text
-  digits-end l h =
-      let all : take (digits_max - from) (drop from s) ≡ drop from s = take_all (digits_max - from) (drop from s) (rw (length-drop, l) (omega arith)) in
-      all ∙ sym (rw (lt-ltb rest 10 h) at e)
 
 -- ---- there is room for the digits
 module _ (from rest : ℕ) (fits : rest < 10 ^ suc from) (h : 10 ≤ rest) where

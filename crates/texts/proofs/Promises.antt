@@ -5,16 +5,16 @@ use mathlib.Core.Path.{◌≡◌, sym, ◌∙◌}
 use mathlib.Core.Bool.{Bool, true, false}
 use mathlib.Core.List.{List, ◌++◌}
 use native.Mathlib.Omega.{arith}
+use Rattle.std.specs.Prelude.{Option}
 use lib.ListN.{length, get_or, take}
 use Rattle.words.specs.Words.{part}
 use Rattle.words.proofs.Laws.{first-low}
-use Rattle.texts.specs.Text.{escaped, digit, decimal_in, saying, said, line_feed, piece_end, fed, feed}
-use Rattle.texts.specs.declared.Piece.{Piece}
+use Rattle.texts.specs.Text.{escaped, digit, decimal_in, saying, said, line_feed, piece_end, fed, feed, fed_answer}
 use Rattle.texts.proofs.Laws as laws
 use laws.{said-within, fed-parts}
 use Rattle.texts.proofs.NumberLaws as numbers
 use numbers.{read_from, IsDigit}
-use Rattle.texts.proofs.Feeding.{fit-front, line-ended, input-ended, same-piece}
+use Rattle.texts.proofs.Feeding.{fit-front, line-ended, input-ended, same-answer, same-line}
 
 -- ---- a text escaped piece by piece is the text escaped
 pub escaped-append : (a b : List ℕ) → escaped (a ++ b) ≡ escaped a ++ escaped b
@@ -68,8 +68,9 @@ module _ (input : List ℕ) (from : ℕ) (line : List ℕ) (have : ℕ) where
       ended-says = (line-ended input from line have has next ended out e, input-ended input from line have has next ended out e f)
 
   -- ---- no second outcome of a piece fed
-  pub one-fed : (r s : Piece) (a b : List ℕ) → fed (saying r.have a) r.next r.ended ≡ feed input from line have
-      → fed (saying s.have b) s.next s.ended ≡ feed input from line have → (r ≡ s) × (a ≡ b)
-  one-fed r s a b p q =
-      let e : fed (saying r.have a) r.next r.ended ≡ fed (saying s.have b) s.next s.ended = p ∙ sym q in
-      (same-piece r s (cc) (cc) (cc), (cc))
+  pub one-fed : (r s : Option ℕ) (h k : ℕ) (a b : List ℕ) → fed_answer input (saying h a) r ≡ feed input from line have
+      → fed_answer input (saying k b) s ≡ feed input from line have → (h ≡ k) × (r ≡ s) × (a ≡ b)
+  one-fed r s h k a b p q =
+      let e : fed_answer input (saying h a) r ≡ fed_answer input (saying k b) s = p ∙ sym q in
+      let l : saying h a ≡ saying k b = same-line input (saying h a) (saying k b) r s e in
+      ((cc), same-answer input (saying h a) (saying k b) r s e, (cc))

@@ -1,6 +1,7 @@
 -- What the programs print and read (RULES 8): bytes escaped, numbers, a text put into a buffer, a line put together from pieces.
-use Rattle.std.specs.Prelude.{ℕ, zero, suc, ◌+◌, ◌-◌, ◌/◌, ◌%◌, min, Bool, cond, not, ◌&&◌, List, [], ◌∷◌, ◌++◌, length, eqb, leb, ltb}
+use Rattle.std.specs.Prelude.{ℕ, zero, suc, ◌≡◌, ◌+◌, ◌-◌, ◌/◌, ◌%◌, min, Bool, true, false, cond, not, ◌&&◌, List, [], ◌∷◌, ◌++◌, length, eqb, leb, ltb, Option, Some, None}
 use Rattle.words.specs.Words.{part, first_in, put}
+use Rattle.texts.specs.declared.Page.{Page}
 
 -- ---- RULES 8.1: a byte that prints as itself, and one that does not
 abbrev pub backslash : ℕ
@@ -44,6 +45,11 @@ pub data Said : Type 0 where
 unfoldable pub said : List ℕ → ℕ → List ℕ → Said
 said out at text = saying (min (at + length text) (length out)) (put out at text)
 
+-- a page afterwards: the text is said from its place on, in the same buffer
+pub record Says (before after : Page) (text : List ℕ) : Type 0 where
+  pub same_buffer : after.out.ghost_name ≡ before.out.ghost_name
+  pub said : saying after.at after.out.now ≡ said before.out.now before.at text
+
 -- ---- names stand one per line: from a place of the input on, a piece goes up to a line feed or to the input's end
 abbrev pub line_feed : ℕ
 line_feed = 10
@@ -59,3 +65,8 @@ pub data Fed : Type 0 where
 unfoldable pub feed : List ℕ → ℕ → List ℕ → ℕ → Fed
 feed input from line have =
     fed (said line have (part input from (piece_end input from))) (min (piece_end input from + 1) (length input)) (ltb (piece_end input from) (length input))
+
+-- what each case of the code's answer means: a line that has ended, or an input that has
+abbrev pub fed_answer : List ℕ → Said → Option ℕ → Fed
+fed_answer input line (Some next) = fed line next true
+fed_answer input line None = fed line (length input) false

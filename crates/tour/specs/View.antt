@@ -1,34 +1,49 @@
 -- The walk's state by value as the definitions have it, and what a turn of it does. Contracts of steps cite these; no promise does.
-use Rattle.std.specs.Prelude.{ℕ, zero, suc, ◌<◌, ◌≡◌, false, cond, List, [], ◌∷◌, ◌++◌, length}
+use Rattle.std.specs.Prelude.{ℕ, ◌≡◌, List, ◌++◌, length, Option, Result, Ok, Err, option_to_list}
 use Rattle.words.specs.Words.{put}
-use Rattle.walk.specs.Machine.{State, bad, here}
-use Rattle.walk.specs.Model.{number_dir, number_phase, go_at, step_at, walk_at, steps_max, entries_of}
-use Rattle.probes.specs.Limits.{node_limit}
-use Rattle.tour.specs.declared.touring.Walk.{Walk}
+use Rattle.sound.specs.Ways.{to_left, to_below, to_right}
+use Rattle.sound.specs.Ways as ways
+use Rattle.walk.specs.Machine.{on, up, State, bad, here}
+use Rattle.walk.specs.Machine as machine
+use Rattle.walk.specs.Model.{link_at, go_at, step_at, walk_at, steps_max, entries_of}
+use Rattle.probes.specs.declared.marks.Damaged.{Damaged}
+use Rattle.probes.specs.declared.number.NodeNumber.{NodeNumber}
+use Rattle.works.specs.View.{before_of}
+use Rattle.works.specs.declared.sibling.Sibling.{Sibling}
+use Rattle.tour.specs.declared.phases.Dir.{Dir}
+use Rattle.tour.specs.declared.phases.Phase.{Phase}
+use Rattle.tour.specs.declared.place.Walk.{Walk}
+
+abbrev pub dir_of : Dir → ways.Dir
+dir_of Dir.Left = to_left
+dir_of Dir.Children = to_below
+dir_of Dir.Right = to_right
+
+abbrev pub phase_of : Phase → machine.Phase
+phase_of (Phase.On dir) = on (dir_of dir)
+phase_of Phase.Up = up
 
 abbrev pub view : Walk → List ℕ → List ℕ → State (List ℕ)
-view w marks es = cond w.ok (here marks w.cur (number_phase w.phase) w.before es) bad
+view w marks es = here marks w.cur.word (phase_of w.phase) (before_of w.before) es
 
--- the node where the walk is, and the one before, have numbers
-abbrev pub Near : Walk → Type 0
-Near w = (w.cur < node_limit) × (w.before < node_limit)
+-- where the walk is, unless it found damage
+abbrev pub walked : Result Walk Damaged → List ℕ → List ℕ → State (List ℕ)
+walked (Ok w) marks es = view w marks es
+walked (Err damaged) marks es = bad
 
--- a walk that failed is at no node
-abbrev pub Halts : Walk → Type 0
-Halts w = w.ok ≡ false → w.cur ≡ 0
+-- from node p and marks it comes to r and after along the link in a direction, whatever entries were listed
+abbrev pub Went : List ℕ → ℕ → List ℕ → NodeNumber → Dir → Option Sibling → Result Walk Damaged → List ℕ → Type 0
+Went area used marks p dir before r after =
+    (es : List ℕ) → walked r after es ≡ go_at area used marks p.word (dir_of dir) (before_of before) es (link_at area (dir_of dir) p.word)
 
--- from w and marks it comes to r and after along a link, whatever entries were listed
-abbrev pub Went : List ℕ → ℕ → Walk → List ℕ → ℕ → Walk → List ℕ → Type 0
-Went area used w marks link r after = (es : List ℕ) → view r after es ≡ go_at area used marks w.cur (number_dir w.phase) w.before es link
+-- the same after a step, which lists the entry that it saw
+abbrev pub listing : Result (Walk × Option ℕ) Damaged → List ℕ → List ℕ → State (List ℕ)
+listing (Ok step) marks es = view step.0 marks (es ++ option_to_list step.1)
+listing (Err damaged) marks es = bad
 
--- the entry that a step saw
-abbrev pub one : ℕ → List ℕ
-one zero = []
-one (suc at) = suc at ∷ []
-
--- from w and marks it comes to r and after in one step, which lists the entry that it saw
-abbrev pub Stepped : List ℕ → ℕ → Walk → List ℕ → Walk → List ℕ → Type 0
-Stepped area used w marks r after = (es : List ℕ) → view r after (es ++ one r.seen) ≡ step_at area used (view w marks es)
+-- from w and marks it comes to r and after in one step
+abbrev pub Stepped : List ℕ → ℕ → Walk → List ℕ → Result (Walk × Option ℕ) Damaged → List ℕ → Type 0
+Stepped area used w marks r after = (es : List ℕ) → listing r after es ≡ step_at area used (view w marks es)
 
 -- where the walk over the whole tree is at its end
 abbrev pub toured : List ℕ → ℕ → List ℕ → State (List ℕ)

@@ -13,6 +13,8 @@
 // It is a step of check and listing (crate audit), and no call of the library: they keep what it asks.
 #![tactic(auto)]
 
+mod phases;
+mod place;
 mod touring;
 
-pub use touring::{Toured, tour};
+pub use touring::tour;

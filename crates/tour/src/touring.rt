@@ -1,183 +1,156 @@
 // The walk: one step at a time, its state by value.
-ghost use Rattle.std.specs.Prelude.{◌≡◌, true, false, cond, ◌+◌, ◌≤◌, ◌<◌, length};
+ghost use Rattle.std.specs.Prelude.{◌≡◌, cond, ◌+◌, ◌<◌, length, is_ok, IfOk, IfSome, option_to_list};
 ghost use Rattle.words.specs.Words.{put};
 ghost use Rattle.walk.specs.Machine.{taken, refused};
-ghost use Rattle.walk.specs.Model.{number_dir, owner_for, enter_at, ended};
-ghost use Rattle.probes.specs.Limits.{word_limit, node_limit, place_limit, UsedIn};
-ghost use Rattle.tour.specs.View.{one, Near, Halts, Went, Stepped, toured, Noted};
+ghost use Rattle.walk.specs.Model.{owner_for, link_at, place_at, enter_at, ended};
+ghost use Rattle.probes.specs.Limits.{word_limit, place_limit};
+ghost use Rattle.tour.specs.View.{dir_of, Went, Stepped, toured, Noted};
 
+use crate::phases::{Dir, Phase};
+use crate::place::Walk;
 use layout::Node;
-use probes::{field, node_room, read_number, take, write_number};
-use works::{Own, own_work};
+use probes::{Damaged, NodeNumber, Used, read_number, take, write_number};
+use works::{Sibling, own_work};
 
 // Bytes of the data for each step of the walk: a node takes 24 bytes or more, and four steps.
 const STEP: usize = 6;
 
-// Where the walk is: at node cur, about to go left (phase 0), to do the node's own work and go below (1), right (2) or up (3).
-#[derive(Clone, Copy)]
-pub struct Walk {
-    pub ok: bool,
-    pub cur: usize,
-    pub phase: usize,
-    // The node before in this tree of siblings, or 0.
-    pub before: usize,
-    // The entry that the last step saw, or 0.
-    pub seen: usize,
-}
-
-fn bad() -> Walk
-    ensures { (result.ok ≡ false) × (result.cur ≡ 0) × (result.phase ≡ 0) × (result.before ≡ 0) × (result.seen ≡ 0) }
-{
-    Walk {
-        ok: false,
-        cur: 0,
-        phase: 0,
-        before: 0,
-        seen: 0,
-    }
-}
-
-fn here(cur: usize, phase: usize, before: usize, seen: usize) -> Walk
-    ensures { (result.ok ≡ true) × (result.cur ≡ cur) × (result.phase ≡ phase) × (result.before ≡ before) × (result.seen ≡ seen) }
-{
-    Walk {
-        ok: true,
-        cur,
-        phase,
-        before,
-        seen,
-    }
-}
-
+// A node and a direction stand side by side in four steps: a pair of them would be one more name for a link.
 // The owner of what hangs from node p in a direction.
-fn owner_for(marks: &[u8], p: usize, dir: usize) -> usize
-    requires { (p < node_limit) × (dir < 3) }
-    ensures { (result ≡ owner_for marks.now p (number_dir dir)) × (result < node_limit) }
+fn owner_for(marks: &[u8], p: NodeNumber, dir: Dir) -> NodeNumber
+    ensures { result.word ≡ owner_for marks.now p.word (dir_of dir) }
 {
-    if dir == 1 {
-        return p;
+    match dir {
+        Dir::Children => p,
+        Dir::Left | Dir::Right => p.owner(marks),
     }
-    read_number(marks, p + 3)
 }
 
-// Enters the node at a link, come to from node p: takes its words and writes its record.
-fn enter(area: &[u8], marks: &mut [u8], used: usize, link: usize, p: usize, dir: usize) -> bool
-    requires { (UsedIn area.now used) × (link < word_limit) × (p < node_limit) × (dir < 3) }
-    ensures { cond result (taken marks.new) refused ≡ enter_at area.now used marks.old link p (number_dir dir) }
+// The link of node n in a direction.
+fn link_at(area: &[u8], n: NodeNumber, dir: Dir) -> usize
+    ensures { (result ≡ link_at area.now (dir_of dir) n.word) × (result < word_limit) }
+{
+    let link = match dir {
+        Dir::Left => Node::LEFT,
+        Dir::Children => Node::CHILDREN,
+        Dir::Right => Node::RIGHT,
+    };
+    n.field(area, link) as usize
+}
+
+// Enters the node at a link, come to from node p: takes its words and writes its record. Its number.
+#[tactic(auto, unfolding(walk::specs::Model::enter_at, walk::specs::Marks::can_take))]
+fn enter(
+    used: Used<'_>,
+    marks: &mut [u8],
+    link: usize,
+    p: NodeNumber,
+    dir: Dir,
+) -> Result<NodeNumber, Damaged>
+    requires { link < word_limit }
+    ensures stands { IfOk result (λ n. n.word ≡ place_at link) }
+    ensures says { cond (is_ok result) (taken marks.new) refused ≡ enter_at used.entry.area.now used.entry.mark marks.old link p.word (dir_of dir) }
 {
     let owner = owner_for(marks, p, dir);
-    let k = node_room(area, used, link);
-    if k == 0 {
-        return false;
-    }
-    let n = link / 4;
-    if !take(marks, n, k) {
-        return false;
-    }
-    write_number(marks, n, p * 3 + dir);
-    write_number(marks, n + 3, owner);
-    true
+    let k = used.node_room(link).ok_or(Damaged)?;
+    let n = NodeNumber { word: link / 4 };
+    take(marks, n.word, k)?;
+    write_number(marks, n.word, p.word * 3 + dir.number());
+    write_number(marks, n.word + 3, owner.word);
+    Ok(n)
 }
 
-// Along a link of the node where the walk is, in the direction of its phase.
-fn go(area: &[u8], marks: &mut [u8], used: usize, w: Walk, link: usize) -> Walk
-    requires { (UsedIn area.now used) × (link < word_limit) × (Near w) × (w.phase < 3) }
-    ensures says { Went area.now used w marks.old link result marks.new }
-    ensures bounds { (Near result) × (result.ok ≡ true → result.seen ≡ w.seen) × (result.seen ≤ w.seen) × (Halts result) }
+// Along the link of node p in a direction, or on at node p if there is none.
+fn go(
+    used: Used<'_>,
+    marks: &mut [u8],
+    p: NodeNumber,
+    dir: Dir,
+    before: Option<Sibling>,
+) -> Result<Walk, Damaged>
+    ensures { Went used.entry.area.now used.entry.mark marks.old p dir before result marks.new }
 {
-    let p = w.cur;
-    let phase = w.phase;
-    let before = w.before;
-    let seen = w.seen;
+    let link = link_at(used.area, p, dir);
     if link == 0 {
-        return here(p, phase + 1, before, seen);
+        let phase = dir.next();
+        return Ok(Walk {
+            cur: p,
+            phase,
+            before,
+        });
     }
-    if !enter(area, marks, used, link, p, phase) {
-        return bad();
-    }
-    here(link / 4, 0, before, seen)
+    let cur = enter(used, marks, link, p, dir)?;
+    Ok(Walk {
+        cur,
+        phase: Phase::On(Dir::Left),
+        before,
+    })
 }
 
-// One step from a node.
-pub fn step(area: &[u8], marks: &mut [u8], used: usize, w: Walk) -> Walk
-    requires { (UsedIn area.now used) × (Near w) × (w.ok ≡ true) × (0 < w.cur) }
-    ensures says { Stepped area.now used w marks.old result marks.new }
-    ensures bounds { (Near result) × (result.seen < word_limit) × (Halts result) }
+// One step from a node, and the entry that it saw.
+pub fn step(used: Used<'_>, marks: &mut [u8], w: Walk) -> Result<(Walk, Option<usize>), Damaged>
+    requires { 0 < w.cur.word }
+    ensures says { Stepped used.entry.area.now used.entry.mark w marks.old result marks.new }
+    ensures bounds { IfOk result (λ step. IfSome step.1 (λ at. at < word_limit)) }
 {
     let n = w.cur;
-    let phase = w.phase;
-    let before = w.before;
-    if phase == 0 {
-        let left = field(area, n, Node::LEFT) as usize;
-        return go(area, marks, used, here(n, 0, before, 0), left);
+    // The phases are known: a match on them shows the walk's order, which closures would hide.
+    match w.phase {
+        Phase::On(Dir::Left) => Ok((go(used, marks, n, Dir::Left, w.before)?, None)),
+        Phase::On(Dir::Children) => {
+            let seen = own_work(used, marks, n, w.before)?;
+            Ok((go(used, marks, n, Dir::Children, None)?, seen))
+        }
+        Phase::On(Dir::Right) => {
+            let here = Some(Sibling { node: n });
+            Ok((go(used, marks, n, Dir::Right, here)?, None))
+        }
+        Phase::Up => {
+            let came = read_number(marks, n.word);
+            let phase = Dir::from_number(came % 3).next();
+            let up = Walk {
+                cur: NodeNumber { word: came / 3 },
+                phase,
+                before: w.before,
+            };
+            Ok((up, None))
+        }
     }
-    if phase == 1 {
-        let below = field(area, n, Node::CHILDREN) as usize;
-        return match own_work(area, marks, used, n, before) {
-            Own::Damaged => bad(),
-            Own::Bare => go(area, marks, used, here(n, 1, 0, 0), below),
-            Own::Entry(at) => go(area, marks, used, here(n, 1, 0, at), below),
-        };
-    }
-    if phase == 2 {
-        let right = field(area, n, Node::RIGHT) as usize;
-        return go(area, marks, used, here(n, 2, n, 0), right);
-    }
-    let came = read_number(marks, n);
-    here(came / 3, came % 3 + 1, before, 0)
 }
 
-// Notes an entry at a place of the list, if it has that place; the next place.
-fn note(list: &mut [u32], i: usize, at: usize) -> usize
-    requires { (i < place_limit) × (at < word_limit) }
-    ensures { (result ≡ i + length (one at)) × (list.new ≡ put list.old i (one at)) }
+// Notes an entry that was seen at a place of the list, if it has that place; the next place.
+#[tactic(auto, unfolding(words::specs::Words::put))]
+fn note(list: &mut [u32], i: usize, seen: Option<usize>) -> usize
+    requires { (i < place_limit) × IfSome seen (λ at. at < word_limit) }
+    ensures { (result ≡ i + length (option_to_list seen)) × (list.new ≡ put list.old i (option_to_list seen)) }
 {
-    if at == 0 {
+    let Some(at) = seen else {
         return i;
-    }
+    };
     if i < list.len() {
         list[i] = at as u32;
-        return i + 1;
     }
     i + 1
 }
 
-// How a walk over the whole tree ended, and how many entries it saw.
-#[derive(Clone, Copy)]
-pub struct Toured {
-    pub ended: bool,
-    pub entries: usize,
-}
-
-// The walk from the root's children, over marks that are all zero, noting entries in the list.
-pub fn tour(area: &[u8], marks: &mut [u8], list: &mut [u32], used: usize) -> Toured
-    requires { UsedIn area.now used }
-    ensures ends { result.ended ≡ ended (toured area.now used marks.old) }
-    ensures notes { result.ended ≡ true → Noted (toured area.now used marks.old) result.entries list.old list.new }
+// The walk from the root's children, over marks that are all zero, noting entries in the list: how many it saw.
+pub fn tour(used: Used<'_>, marks: &mut [u8], list: &mut [u32]) -> Result<usize, Damaged>
+    ensures ends { is_ok result ≡ ended (toured used.entry.area.now used.entry.mark marks.old) }
+    ensures notes { IfOk result (λ entries. Noted (toured used.entry.area.now used.entry.mark marks.old) entries list.old list.new) }
 {
-    let mut left = layout::data_size(area) / STEP;
+    let root = NodeNumber { word: 0 };
+    let mut w = go(used, marks, root, Dir::Children, None)?;
     let mut entries = 0;
-    let first = field(area, 0, Node::CHILDREN) as usize;
-    let mut w = go(area, marks, used, here(0, 1, 0, 0), first);
-    while 0 < left {
-        if w.cur == 0 {
-            return Toured {
-                ended: w.ok,
-                entries,
-            };
+    for _ in 0..layout::data_size(used.area) / STEP {
+        if w.cur.word == 0 {
+            return Ok(entries);
         }
-        w = step(area, marks, used, w);
-        entries = note(list, entries, w.seen);
-        left -= 1;
+        let (next, seen) = step(used, marks, w)?;
+        entries = note(list, entries, seen);
+        w = next;
     }
-    if w.cur == 0 {
-        return Toured {
-            ended: w.ok,
-            entries,
-        };
+    if w.cur.word == 0 {
+        return Ok(entries);
     }
-    Toured {
-        ended: false,
-        entries: 0,
-    }
+    Err(Damaged)
 }

@@ -7,18 +7,33 @@ use native.Mathlib.Omega.{arith}
 use lib.Dec.{eqb}
 use lib.ListN.{length}
 use Rattle.words.proofs.Laws.{bool_cases}
+use Rattle.std.specs.Prelude.{Option, Some, None, Result, Ok, Err}
 use Rattle.layout.specs.declared.refusal.Refusal.{Refusal}
+use Rattle.layout.specs.declared.text.Span.{Span}
 use Rattle.layout.specs.Layout.{children_field, node_ok, word_at}
 use Rattle.trie.specs.declared.trie.Visited.{Visited}
 use Rattle.trie.specs.declared.trie.Searched.{Searched}
-use Rattle.trie.specs.Trie.{visit_node, by_visit, nodes_max, search_from, segment_steps}
+use Rattle.trie.specs.Trie.{node_name, by_name, visit_node, named, absent, by_visit, nodes_max, search_from, segment_steps}
 use Rattle.trie.specs.Visits.{by_next, visits_from, visits}
 
 -- a search that ends at a node or at a zero link tells this count
-abbrev Tells : ℕ → Searched → Type 0
-Tells count (Searched.Named node compared) = compared ≡ count
-Tells count (Searched.Absent link compared) = compared ≡ count
-Tells count (Searched.Refused why) = Unit {0}
+abbrev Tells : ℕ → Result Searched Refusal → Type 0
+Tells count (Ok (Searched.Named node compared)) = compared ≡ count
+Tells count (Ok (Searched.Absent link compared)) = compared ≡ count
+Tells count (Err why) = Unit {0}
+
+-- what no comparison finds is damage
+abbrev pub Damage : Result Visited Refusal → Type 0
+Damage (Ok seen) = Unit {0}
+Damage (Err why) = why ≡ Refusal.Damaged
+
+pub visit_damage : (area segment : List ℕ) (at : ℕ) → Damage (visit_node area segment at)
+unfolding visit_node
+visit_damage area segment at = bool_cases (node_ok area at) (λ t. rw t (by (node_name area at))) (λ t. rw t refl)
+  where
+    by : (name : Option Span) → Damage (by_name area segment at name)
+    by (Some name) = tt
+    by None = refl
 
 module _ (area segment : List ℕ) where
   from-bound : (more node : ℕ) → length (visits_from area segment more node) ≤ more
@@ -26,25 +41,25 @@ module _ (area segment : List ℕ) where
   from-bound zero node = omega arith
   from-bound (suc more) node = by (visit_node area segment node) (from-bound more)
     where
-      by : (v : Visited) → ((next : ℕ) → length (visits_from area segment more next) ≤ more) → suc (length (by_next v (visits_from area segment more))) ≤ suc more
-      by Visited.Same on = omega arith
-      by (Visited.Next next) on = omega (arith, on next)
-      by (Visited.Stop link) on = omega arith
-      by Visited.Damaged on = omega arith
+      by : (v : Result Visited Refusal) → ((next : ℕ) → length (visits_from area segment more next) ≤ more) → suc (length (by_next v (visits_from area segment more))) ≤ suc more
+      by (Ok Visited.Same) on = omega arith
+      by (Ok (Visited.Next next)) on = omega (arith, on next)
+      by (Ok (Visited.Stop link)) on = omega arith
+      by (Err why) on = omega arith
 
-  from-another : (more most node n : ℕ) → more < length (visits_from area segment most node) → search_from area segment more node n ≡ Searched.Refused Refusal.Damaged
+  from-another : (more most node n : ℕ) → more < length (visits_from area segment most node) → search_from area segment more node n ≡ Err Refusal.Damaged
   unfolding visits_from search_from
   from-another zero most node n h = refl
   from-another (suc more) zero node n h = absurd (omega arith)
-  from-another (suc more) (suc most) node n h = by (visit_node area segment node) h (λ next. from-another more most next (n + 1))
+  from-another (suc more) (suc most) node n h = by (visit_node area segment node) (visit_damage area segment node) h (λ next. from-another more most next (n + 1))
     where
-      by : (v : Visited) → suc more < suc (length (by_next v (visits_from area segment most)))
-          → ((next : ℕ) → more < length (visits_from area segment most next) → search_from area segment more next (n + 1) ≡ Searched.Refused Refusal.Damaged)
-          → by_visit v node (n + 1) (λ next. search_from area segment more next (n + 1)) ≡ Searched.Refused Refusal.Damaged
-      by Visited.Same k on = absurd (omega arith)
-      by (Visited.Next next) k on = on next (omega arith)
-      by (Visited.Stop link) k on = absurd (omega arith)
-      by Visited.Damaged k on = refl
+      by : (v : Result Visited Refusal) → Damage v → suc more < suc (length (by_next v (visits_from area segment most)))
+          → ((next : ℕ) → more < length (visits_from area segment most next) → search_from area segment more next (n + 1) ≡ Err Refusal.Damaged)
+          → by_visit v node (n + 1) (λ next. search_from area segment more next (n + 1)) ≡ Err Refusal.Damaged
+      by (Ok Visited.Same) d k on = absurd (omega arith)
+      by (Ok (Visited.Next next)) d k on = on next (omega arith)
+      by (Ok (Visited.Stop link)) d k on = absurd (omega arith)
+      by (Err why) d k on = ap Err d
 
   from-whole : (more most node : ℕ) → more ≤ most → length (visits_from area segment most node) ≤ more → visits_from area segment most node ≡ visits_from area segment more node
   unfolding visits_from
@@ -53,26 +68,26 @@ module _ (area segment : List ℕ) where
   from-whole (suc more) zero node l h = absurd (omega arith)
   from-whole (suc more) (suc most) node l h = ap (λ (rest : List ℕ). node ∷ rest) (by (visit_node area segment node) h (λ next. from-whole more most next (omega arith)))
     where
-      by : (v : Visited) → suc (length (by_next v (visits_from area segment most))) ≤ suc more
+      by : (v : Result Visited Refusal) → suc (length (by_next v (visits_from area segment most))) ≤ suc more
           → ((next : ℕ) → length (visits_from area segment most next) ≤ more → visits_from area segment most next ≡ visits_from area segment more next)
           → by_next v (visits_from area segment most) ≡ by_next v (visits_from area segment more)
-      by Visited.Same k on = refl
-      by (Visited.Next next) k on = on next (omega arith)
-      by (Visited.Stop link) k on = refl
-      by Visited.Damaged k on = refl
+      by (Ok Visited.Same) k on = refl
+      by (Ok (Visited.Next next)) k on = on next (omega arith)
+      by (Ok (Visited.Stop link)) k on = refl
+      by (Err why) k on = refl
 
   from-tells : (more node n count : ℕ) → n + length (visits_from area segment more node) ≡ count → Tells count (search_from area segment more node n)
   unfolding visits_from search_from
   from-tells zero node n count e = tt
   from-tells (suc more) node n count e = by (visit_node area segment node) e (λ next. from-tells more next (n + 1) count)
     where
-      by : (v : Visited) → n + suc (length (by_next v (visits_from area segment more))) ≡ count
+      by : (v : Result Visited Refusal) → n + suc (length (by_next v (visits_from area segment more))) ≡ count
           → ((next : ℕ) → n + 1 + length (visits_from area segment more next) ≡ count → Tells count (search_from area segment more next (n + 1)))
           → Tells count (by_visit v node (n + 1) (λ next. search_from area segment more next (n + 1)))
-      by Visited.Same k on = omega arith
-      by (Visited.Next next) k on = on next (omega arith)
-      by (Visited.Stop link) k on = omega arith
-      by Visited.Damaged k on = tt
+      by (Ok Visited.Same) k on = omega arith
+      by (Ok (Visited.Next next)) k on = on next (omega arith)
+      by (Ok (Visited.Stop link)) k on = omega arith
+      by (Err why) k on = tt
 
   module _ (parent : ℕ) where
     abbrev first : ℕ
@@ -90,7 +105,7 @@ module _ (area segment : List ℕ) where
 
     module _ (most : ℕ) where
       -- needing another is 5
-      pub segment-another : nodes_max area < length (visits most area segment parent) → segment_steps area segment parent ≡ Searched.Refused Refusal.Damaged
+      pub segment-another : nodes_max area < length (visits most area segment parent) → segment_steps area segment parent ≡ Err Refusal.Damaged
       unfolding visits segment_steps
       segment-another h =
           bool_cases (eqb (length segment) 0)
@@ -121,7 +136,7 @@ module _ (area segment : List ℕ) where
         (λ t. rw (e, t) tt))
 
     -- the count that is told is the count of these nodes
-    pub segment-counts : (at compared : ℕ) → (segment_steps area segment parent ≡ Searched.Named at compared) ⊎ (segment_steps area segment parent ≡ Searched.Absent at compared)
+    pub segment-counts : (at compared : ℕ) → (segment_steps area segment parent ≡ named at compared) ⊎ (segment_steps area segment parent ≡ absent at compared)
         → compared ≡ length (visits (nodes_max area) area segment parent)
     segment-counts at compared (inl e) = rw e at tells
     segment-counts at compared (inr e) = rw e at tells

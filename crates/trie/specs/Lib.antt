@@ -1,4 +1,3 @@
 pub mod Header
 pub mod Trie
 pub mod Visits
-pub mod View

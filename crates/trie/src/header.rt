@@ -5,6 +5,7 @@ ghost use Rattle.trie.specs.Header.{header_ok};
 use layout::Header;
 
 // Whether the length, the magic and the version are an area's.
+#[tactic(auto, unfolding(crate::specs::Header::header_ok))]
 pub fn header_ok(area: &[u8]) -> bool
     ensures { result ≡ header_ok area.now }
 {

@@ -1,52 +1,41 @@
 // Listing an area, with buffers that are long enough, too short, and longer than needed.
-use crate::saying::{say, say_list, say_number, say_word};
-use audit::Listed;
+// What a list's places hold before an area is listed.
+const UNWRITTEN: u32 = 9;
 
-// Lists an area, and says what became of scratch and list.
-fn list(rt: &HostRuntime, area: &[u8], scratch: &mut [u8], zeros: &[u8], offsets: &mut [u32]) {
-    match audit::list(area, scratch, offsets) {
-        Listed::Entries(count) => {
-            say(rt, b": entries ");
-            say_number(rt, count);
-        }
-        Listed::Refused(why) => {
-            say(rt, b": refused ");
-            say_word(rt, why.number());
+// Prints what was written to a list, or that it was kept.
+fn say_list(rt: &HostRuntime, list: &[u32]) {
+    if list.first() == Some(&UNWRITTEN) {
+        let _ = println!(rt; ", list kept");
+        return;
+    }
+    let _ = print!(rt; ", list");
+    for offset in list {
+        if *offset != UNWRITTEN {
+            let _ = print!(rt; " {offset}");
         }
     }
-    if words::same(scratch, zeros) {
-        say(rt, b", scratch zero");
+    let _ = println!(rt; "");
+}
+
+// Lists an area with scratch and a list of these lengths, and says what became of both.
+pub fn list_with(rt: &HostRuntime, area: &[u8], scratch: &mut [u8], list: &mut [u32]) {
+    scratch.fill(255);
+    list.fill(UNWRITTEN);
+    match audit::list(area, scratch, list) {
+        Ok(count) => {
+            let _ = print!(rt; ": entries {count}");
+        }
+        Err(why) => {
+            let _ = print!(rt; ": refused {}", why.number());
+        }
     }
-    say_list(rt, offsets);
+    if scratch.iter().all(|byte| *byte == 0) {
+        let _ = print!(rt; ", scratch zero");
+    }
+    say_list(rt, list);
 }
 
-pub fn list_whole(rt: &HostRuntime, area: &[u8]) {
-    let mut scratch = [255u8; 256];
-    let zeros = [0u8; 256];
-    let mut offsets = [9u32; 8];
-    list(rt, area, &mut scratch, &zeros, &mut offsets);
-}
-
-pub fn short_scratch(rt: &HostRuntime, area: &[u8]) {
-    let zeros = [0u8; 255];
-    let mut scratch = [255u8; 255];
-    let mut offsets = [9u32; 8];
-    say(rt, b"scratch one short");
-    list(rt, area, &mut scratch, &zeros, &mut offsets);
-}
-
-pub fn short_list(rt: &HostRuntime, area: &[u8]) {
-    let zeros = [0u8; 256];
-    let mut scratch = [255u8; 256];
-    let mut offsets = [9u32; 4];
-    say(rt, b"list one short");
-    list(rt, area, &mut scratch, &zeros, &mut offsets);
-}
-
-pub fn just_enough(rt: &HostRuntime, area: &[u8]) {
-    let zeros = [0u8; 300];
-    let mut scratch = [255u8; 300];
-    let mut offsets = [9u32; 5];
-    say(rt, b"list as long as needed, scratch longer");
-    list(rt, area, &mut scratch, &zeros, &mut offsets);
+// Lists an area with buffers that are long enough.
+pub fn list(rt: &HostRuntime, area: &[u8]) {
+    list_with(rt, area, &mut [0; 256], &mut [0; 8]);
 }

@@ -9,9 +9,9 @@
 
 mod breaking;
 mod listing;
-mod saying;
 
-use streams::read_full;
+use listing::list_with;
+use streams::{print, read_full};
 
 // Breaks the area in each way of the input.
 fn break_all(rt: &HostRuntime, area: &mut [u8]) {
@@ -24,8 +24,11 @@ fn main(rt: HostRuntime) {
     let mut area = [0u8; 1024];
     break_all(&rt, &mut area);
     breaking::build(&rt, &mut area);
-    listing::short_scratch(&rt, &area);
-    listing::short_list(&rt, &area);
-    listing::just_enough(&rt, &area);
+    print(&rt, b"scratch one short");
+    list_with(&rt, &area, &mut [0; 255], &mut [0; 8]);
+    print(&rt, b"list one short");
+    list_with(&rt, &area, &mut [0; 256], &mut [0; 4]);
+    print(&rt, b"list as long as needed, scratch longer");
+    list_with(&rt, &area, &mut [0; 300], &mut [0; 5]);
     breaking::another_magic(&rt, &mut area);
 }

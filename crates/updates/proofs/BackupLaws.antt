@@ -1,5 +1,5 @@
 -- What an update leaves in the part of the backup slot that lies before its entry: the old value and its zero, for all that is stored later stands behind it.
-use mathlib.Core.Path.{◌≡◌, ap, ◌∙◌}
+use mathlib.Core.Path.{◌≡◌, ◌∙◌}
 use mathlib.Core.List.{List, [], ◌∷◌, ◌++◌}
 use Prim.Native.Nat.{ℕ, ◌+◌, ◌≤◌, ◌<◌}
 use native.Mathlib.Omega.{arith}
@@ -7,7 +7,7 @@ use lib.ListN.{length, get_or, length-append}
 use Rattle.words.specs.Stores.{run, word_store, text_stores}
 use Rattle.words.proofs.Laws.{put_same}
 use Rattle.words.proofs.StoreLaws.{run-append, run-bytes, Behind, none, one, behind-append, behind-bytes, run-before}
-use Rattle.layout.specs.Layout.{serial_field, slot_field, backup_at, data_size, byte_of, place_of, word_at}
+use Rattle.layout.specs.Layout.{serial_field, slot_field, backup_at, data_size, byte_of, place_of}
 use Rattle.serials.specs.Serial.{dirty}
 use Rattle.property_info.specs.Written.{write_stores}
 use Rattle.updates.specs.Update.{backup_stores, slot_text, update_stores}
@@ -25,6 +25,6 @@ unfolding update_stores
 stores-backup area at value j room m h =
     let old = slot_text area at ++ 0 ∷ [] in
     let n : length old ≡ length (slot_text area at) + 1 = length-append (slot_text area at) (0 ∷ []) in
-    ap (λ (s : List ℕ). get_or s (byte_of backup_at + j) 0) (run-append area (backup_stores (slot_text area at)) (write_stores at (word_at area at serial_field) value))
-    ∙ run-before (run area (backup_stores (slot_text area at))) (byte_of at) (write_stores at (word_at area at serial_field) value) (write-behind at (word_at area at serial_field) value) (byte_of backup_at + j) (omega arith)
-    ∙ rw (run-bytes area (byte_of backup_at) old) (put_same area (byte_of backup_at) old j (omega arith) (omega arith))
+    let b : (serial : ℕ) → get_or (run (run area (backup_stores (slot_text area at))) (write_stores at serial value)) (byte_of backup_at + j) 0 ≡ get_or old j 0 =
+    λ serial. run-before _ (byte_of at) _ (write-behind at serial value) (byte_of backup_at + j) (omega arith) ∙ rw (run-bytes area (byte_of backup_at) old) (put_same area (byte_of backup_at) old j (omega arith) (omega arith)) in
+    rw run-append (search b)

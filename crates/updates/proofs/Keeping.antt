@@ -7,9 +7,9 @@ use lib.Dec.{eqb, leb}
 use lib.ListN.{length}
 use Rattle.words.specs.Stores.{run}
 use Rattle.words.proofs.Laws.{bool_cases, clash}
-use Rattle.layout.specs.declared.refusal.Verdict.{Verdict}
+use Rattle.std.specs.Prelude.{Ok, Err}
 use Rattle.layout.specs.Layout.{slot_size, backup_size, entry_ok}
-use Rattle.layout.specs.Refusals.{Answer, accepted, refused, no_refusal, by_verdict, Outcome, leaves, refuse_leaving}
+use Rattle.layout.specs.Refusals.{Verdict, Answer, accepted, refused, no_refusal, by_verdict, Outcome, leaves, refuse_leaving}
 use Rattle.property_info.specs.Entry.{is_long}
 use Rattle.trie.specs.Header.{header_ok}
 use Rattle.property_area.specs.Find.{Hit, hit, by_hit, find_steps}
@@ -20,8 +20,8 @@ abbrev pub Keeps : List ℕ → Outcome → Type 0
 Keeps area (leaves number after) = (number ≡ no_refusal → ⊥) → after ≡ area
 
 verdict-keeps : (area : List ℕ) (v : Verdict) (on : Outcome) → Keeps area on → Keeps area (by_verdict v (refuse_leaving area) on)
-verdict-keeps area Verdict.Accepted on k = k
-verdict-keeps area (Verdict.Refused why) on k = λ n. refl
+verdict-keeps area (Ok _) on k = k
+verdict-keeps area (Err why) on k = λ n. refl
 
 -- update by name: every refusal leaves every byte
 entry-keeps : (area value : List ℕ) (at : ℕ) → Keeps area (update_entry area value at)

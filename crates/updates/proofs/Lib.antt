@@ -3,3 +3,4 @@ pub mod Keeping
 pub mod BackupLaws
 pub mod Telling
 pub mod Promises
+pub mod Named

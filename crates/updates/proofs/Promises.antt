@@ -6,9 +6,8 @@ use mathlib.Core.List.{List, [], ◌∷◌, ◌++◌}
 use Prim.Native.Nat.{ℕ, ◌+◌, ◌≤◌, ◌<◌}
 use lib.ListN.{length, get_or}
 use Rattle.words.specs.Stores.{run}
-use Rattle.layout.specs.declared.refusal.Verdict.{Verdict}
 use Rattle.layout.specs.Layout.{serial_field, backup_at, byte_of, word_at}
-use Rattle.layout.specs.Refusals.{accepted, verdict_number, leaves, accept_leaving}
+use Rattle.layout.specs.Refusals.{Verdict, accepted, verdict_number, leaves, accept_leaving}
 use Rattle.layout.proofs.Promises.{one-outcome}
 use Rattle.property_info.specs.Written.{write_stores}
 use Rattle.property_area.specs.Find.{hit, find_steps}

@@ -10,9 +10,9 @@ use lib.ListN.{length, get_or}
 use Rattle.words.specs.Stores.{run}
 use Rattle.words.proofs.Laws.{bool_cases}
 use Rattle.layout.specs.declared.refusal.Refusal.{Refusal}
-use Rattle.layout.specs.declared.refusal.Verdict.{Verdict}
+use Rattle.std.specs.Prelude.{Ok, Err}
 use Rattle.layout.specs.Layout.{serial_field, slot_field, slot_size, backup_at, backup_size, data_size, byte_of, place_of, word_at, entry_ok}
-use Rattle.layout.specs.Refusals.{Answer, accepted, by_verdict, Outcome, leaves, accept_leaving, refuse_leaving}
+use Rattle.layout.specs.Refusals.{Verdict, pass, Answer, accepted, by_verdict, Outcome, leaves, accept_leaving, refuse_leaving}
 use Rattle.layout.proofs.Numbers.{outcome-clash}
 use Rattle.property_info.specs.Entry.{is_long, slot_end, short_value, value_of}
 use Rattle.property_info.specs.Written.{write_stores}
@@ -24,9 +24,9 @@ use Rattle.updates.specs.Update.{value_verdict, backup_past_area, backup_stores,
 use Rattle.updates.proofs.Laws.{Takes, value-short, slot-size}
 use Rattle.updates.proofs.BackupLaws.{stores-backup}
 
-passed : (after area : List ℕ) (v : Verdict) (on : Outcome) → accept_leaving after ≡ by_verdict v (refuse_leaving area) on → (v ≡ Verdict.Accepted) × (accept_leaving after ≡ on)
-passed after area Verdict.Accepted on e = (refl, e)
-passed after area (Verdict.Refused why) on e = outcome-clash after area why e
+passed : (after area : List ℕ) (v : Verdict) (on : Outcome) → accept_leaving after ≡ by_verdict v (refuse_leaving area) on → (v ≡ pass) × (accept_leaving after ≡ on)
+passed after area (Ok _) on e = (refl, e)
+passed after area (Err why) on e = outcome-clash after area why e
 
 -- ---- an entry updated by name
 record EntryTells (area value : List ℕ) (at : ℕ) (after : List ℕ) : Type 0 where

@@ -3,9 +3,8 @@ use Rattle.std.specs.Prelude.{ℕ, ◌+◌, Bool, cond, List, ◌++◌, length, 
 use Rattle.words.specs.Words.{part}
 use Rattle.words.specs.Stores.{Store, run, text_stores}
 use Rattle.layout.specs.declared.refusal.Refusal.{Refusal}
-use Rattle.layout.specs.declared.refusal.Verdict.{Verdict}
 use Rattle.layout.specs.Layout.{serial_field, slot_field, slot_size, backup_at, backup_size, data_size, byte_of, place_of, word_at, entry_ok}
-use Rattle.layout.specs.Refusals.{guard, by_verdict, Outcome, leaves, accept_leaving, refuse_leaving}
+use Rattle.layout.specs.Refusals.{guard, Verdict, pass, fail, by_verdict, Outcome, leaves, accept_leaving, refuse_leaving}
 use Rattle.property_info.specs.Entry.{is_long, slot_end}
 use Rattle.property_info.specs.Written.{write_stores}
 use Rattle.trie.specs.Header.{header_ok}
@@ -13,7 +12,7 @@ use Rattle.property_area.specs.Find.{by_hit, find_steps}
 
 -- new value of 92 bytes or more: 6
 unfoldable pub value_verdict : List ℕ → Verdict
-value_verdict value = cond (leb slot_size (length value)) (Verdict.Refused Refusal.TooLong) Verdict.Accepted
+value_verdict value = cond (leb slot_size (length value)) (fail Refusal.TooLong) pass
 
 -- 21 + length above data size
 abbrev pub backup_past_area : List ℕ → List ℕ → Bool

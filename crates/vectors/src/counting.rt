@@ -1,34 +1,24 @@
 // How often each call of the vectors was accepted, and refused with each number.
 ghost use Rattle.std.specs.Prelude.{◌≤◌, ◌<◌, length};
 
-use crate::saying::{say, say_number};
-use replay::{Reading, Step};
+use replay::Step;
 
 // The largest number of a refusal.
 const NUMBERS: u32 = 10;
 
-// The word at a place, or 0 where none stands there.
-fn word_at(vectors: &[u8], at: usize) -> u32 {
-    if vectors.len() < 4 {
-        return 0;
+// The word at a place, if one stands there.
+fn word_at(vectors: &[u8], at: usize) -> Option<u32> {
+    if vectors.len() < 4 || vectors.len() - 4 < at {
+        return None;
     }
-    if vectors.len() - 4 < at {
-        return 0;
-    }
-    words::word(vectors, at)
+    Some(words::word(vectors, at))
 }
 
-// What the Rust answered at a record: 0 for accepted, else the refusal. A distance is no refusal, and a store has no answer.
+// What the Rust answered at a record: 0 for accepted, else the refusal. A distance is no refusal, and a store has no answer. A number, since the vectors' own answers are compared with it.
 fn number_at(vectors: &[u8], at: usize) -> u32 {
     match replay::read_record(vectors, at) {
-        Reading::Record(parts) => {
-            let step = parts.step;
-            let answers = parts.answers;
-            match step {
-                Step::Distance => 0,
-                Step::Poke => 0,
-                _ => word_at(vectors, answers),
-            }
+        Ok(parts) if !matches!(parts.step, Step::Distance | Step::Poke) => {
+            word_at(vectors, parts.answers).unwrap_or(0)
         }
         _ => 0,
     }
@@ -40,82 +30,51 @@ fn end_of(vectors: &[u8], at: usize) -> usize
     ensures { (at < result) × (result ≤ length vectors.now) }
 {
     match replay::read_record(vectors, at) {
-        Reading::Record(parts) => {
-            let last = parts.checksum;
-            if last < at {
-                return vectors.len();
-            }
-            if vectors.len() < 4 {
-                return vectors.len();
-            }
-            if vectors.len() - 4 < last {
-                return vectors.len();
-            }
-            last + 4
-        }
-        _ => vectors.len(),
+        Ok(parts) => parts.checksum + 4,
+        Err(_) => vectors.len(),
     }
 }
 
-// 1 where the record at a place has that opcode and that answer, else 0.
-fn one_if_at(vectors: &[u8], at: usize, opcode: u32, number: u32) -> usize
-    ensures { result ≤ 1 }
-{
-    if word_at(vectors, at) != opcode {
-        return 0;
-    }
-    if number_at(vectors, at) != number {
-        return 0;
-    }
-    1
-}
-
-// How many records have that opcode and that answer.
-fn times(vectors: &[u8], opcode: u32, number: u32) -> usize {
+// How many records are of that step and have that answer. A record that is cut counts by its opcode.
+fn times(vectors: &[u8], step: Step, number: u32) -> usize {
     let mut count = 0;
     let mut at = 4;
+    // Where the next record begins is told by the one before, so this is a `while`.
     while at < vectors.len() {
-        count += one_if_at(vectors, at, opcode, number);
+        let found = word_at(vectors, at).and_then(Step::of);
+        if found == Some(step) && number_at(vectors, at) == number {
+            count += 1;
+        }
         at = end_of(vectors, at);
     }
     count
 }
 
-fn say_refused(rt: &HostRuntime, vectors: &[u8], opcode: u32, number: u32) {
-    let count = times(vectors, opcode, number);
-    if 0 < count {
-        say(rt, b", ");
-        say_number(rt, count);
-        say(rt, b" refused ");
-        say_number(rt, number as usize);
+// A line for a call. What cannot be written is lost, and nothing stops at it.
+fn say_call(rt: &HostRuntime, vectors: &[u8], step: Step, name: &str) {
+    let _ = print!(rt; "{name}: {} accepted", times(vectors, step, 0));
+    for number in 1..=NUMBERS {
+        let count = times(vectors, step, number);
+        if 0 < count {
+            let _ = print!(rt; ", {count} refused {number}");
+        }
     }
-}
-
-fn say_refusals(rt: &HostRuntime, vectors: &[u8], opcode: u32) {
-    let mut number = 1;
-    while number <= NUMBERS {
-        say_refused(rt, vectors, opcode, number);
-        number += 1;
-    }
-}
-
-fn say_call(rt: &HostRuntime, vectors: &[u8], opcode: u32, name: &[u8]) {
-    say(rt, name);
-    say(rt, b": ");
-    say_number(rt, times(vectors, opcode, 0));
-    say(rt, b" accepted");
-    say_refusals(rt, vectors, opcode);
-    say(rt, b"\n");
+    let _ = println!(rt; "");
 }
 
 // A line for each call, in the order of their opcodes.
 pub fn say_calls(rt: &HostRuntime, vectors: &[u8]) {
-    say_call(rt, vectors, 1, b"format");
-    say_call(rt, vectors, 2, b"add");
-    say_call(rt, vectors, 3, b"update");
-    say_call(rt, vectors, 4, b"raw update");
-    say_call(rt, vectors, 5, b"find");
-    say_call(rt, vectors, 6, b"value");
-    say_call(rt, vectors, 7, b"backup read");
-    say_call(rt, vectors, 8, b"distance");
+    let calls = [
+        (Step::Format, "format"),
+        (Step::Add, "add"),
+        (Step::Update, "update"),
+        (Step::RawUpdate, "raw update"),
+        (Step::Find, "find"),
+        (Step::Value, "value"),
+        (Step::BackupRead, "backup read"),
+        (Step::Distance, "distance"),
+    ];
+    for (step, name) in calls {
+        say_call(rt, vectors, step, name);
+    }
 }

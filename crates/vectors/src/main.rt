@@ -11,34 +11,32 @@
 ghost use Rattle.io.specs.Counts.{IsPrefixLen};
 
 mod counting;
-mod saying;
 
 use replay::{End, Report};
-use saying::{say, say_number};
 use std::fs;
 use streams::read_full;
 
 // Why the replay stopped, where it did not come to the end of the vectors.
-fn say_end(rt: &HostRuntime, end: End) {
+fn stop(end: End) -> &'static str {
     match end {
-        End::Whole => say(rt, b""),
-        End::Cut => say(rt, b"; the data ends within a record"),
-        End::Unknown => say(rt, b"; a record has an unknown opcode"),
-        End::NoRoom => say(rt, b"; a record asks for more bytes than the buffers have"),
-        End::Surplus => say(rt, b"; bytes are left behind the last record"),
+        End::Whole => "",
+        End::Cut => "; the data ends within a record",
+        End::Unknown => "; a record has an unknown opcode",
+        End::NoRoom => "; a record asks for more bytes than the buffers have",
+        End::Surplus => "; bytes are left behind the last record",
     }
 }
 
+// What cannot be written is lost, and nothing stops at it.
 fn show(rt: &HostRuntime, report: Report) {
-    say_number(rt, report.tally.records as usize);
-    say(rt, b" records, ");
-    say_number(rt, report.tally.calls as usize);
-    say(rt, b" calls, ");
-    say_number(rt, report.tally.differences as usize);
-    say(rt, b" differences");
-    let end = report.end;
-    say_end(rt, end);
-    say(rt, b"\n");
+    let tally = report.tally;
+    let _ = println!(rt;
+        "{} records, {} calls, {} differences{}",
+        tally.records,
+        tally.calls,
+        tally.differences,
+        stop(report.end)
+    );
 }
 
 // Reads the vectors into the start of a buffer. A file that cannot be read counts as empty; one that is longer is cut.

@@ -6,7 +6,7 @@ use mathlib.Core.Logic.{◌≢◌, ◌⊎◌, inl, inr}
 use mathlib.Core.List.{List, [], ◌∷◌, ◌++◌}
 use lib.ListN.{length, get_or}
 use Rattle.names.specs.Names.{dot, segment_order}
-use Rattle.names.specs.declared.Order.TheVariants.{Less, Greater}
+use Rattle.std.specs.declared.cmp.Ordering.TheVariants.{Less, Greater}
 use Rattle.names.proofs.OrderLaws.{order_trans, order-less-flip}
 use Rattle.layout.specs.Layout.{word_size, namelen_field, prop_field, left_field, right_field, children_field, first_free, byte_of, word_at, node_takes}
 use Rattle.sound.specs.Tree.{Entry, Tree, leaf, node, link, entry_link, listed, inside, cover}

@@ -7,7 +7,7 @@ use mathlib.Core.Bool.{true}
 use mathlib.Core.List.{List, [], ◌∷◌, ◌++◌}
 use lib.ListN.{length, get_or}
 use Rattle.names.specs.Names.{dot, segment_order}
-use Rattle.names.specs.declared.Order.TheVariants.{Less, Greater}
+use Rattle.std.specs.declared.cmp.Ordering.TheVariants.{Less, Greater}
 use Rattle.names.proofs.OrderLaws.{order-greater-flip}
 use Rattle.layout.specs.Layout.{word_size, namelen_field, first_free, byte_of, word_at, node_takes}
 use Rattle.sound.specs.Tree.{Entry, Tree, leaf, node, link, entry_link, listed, listed_own, inside, entry_cover, cover}

@@ -6,7 +6,7 @@ use mathlib.Core.Logic.{◌≢◌}
 use mathlib.Core.List.{List, ◌∷◌}
 use lib.ListN.{length, get_or}
 use Rattle.names.specs.Names.{segment_order}
-use Rattle.names.specs.declared.Order.TheVariants.{Less, Greater}
+use Rattle.std.specs.declared.cmp.Ordering.TheVariants.{Less, Greater}
 use Rattle.layout.specs.Layout.{word_size, node_size, namelen_field, first_free, byte_of, place_of, word_at, node_takes}
 use Rattle.sound.specs.Tree.{Entry, Tree, node, link, listed, inside, cover}
 use Rattle.sound.specs.Sound.{NodeAt, TreeAt, Without, NodeRule, Side, TreeRule}

@@ -10,8 +10,8 @@ use lib.ListN.{length, get_or}
 use borrow.Author.Tests.{eqb-true, leb-true, ltb-true}
 use Rattle.words.proofs.Laws.{bool_cases, clash}
 use Rattle.names.specs.Names.{segment_order}
-use Rattle.names.specs.declared.Order.{Order}
-use Rattle.names.specs.declared.Order.TheVariants.{Less, Equal, Greater}
+use Rattle.std.specs.declared.cmp.Ordering.{Ordering}
+use Rattle.std.specs.declared.cmp.Ordering.TheVariants.{Less, Equal, Greater}
 use Rattle.layout.specs.Layout.{word_size, prop_field, entry_size, serial_field, slot_field, slot_size, long_offset_field, first_free, byte_of, place_of, word_at, entry_takes, value_takes}
 use Rattle.serials.specs.Serial.{long_in}
 use Rattle.property_info.specs.Entry.{is_long}
@@ -194,7 +194,7 @@ module _ (area : List ℕ) (used : ℕ) (whole : used % word_size ≡ 0) (marks 
             named_in after es at stop (prefix ++ name_at area n) fits p.0 p.1 u.1 t.1
 
 -- ---- its place in the order
-is-less : (order : Order) → is_less order ≡ true → order ≡ Less
+is-less : (order : Ordering) → is_less order ≡ true → order ≡ Less
 is-less Less h = refl
 is-less Equal h = absurd (false≢true h)
 is-less Greater h = absurd (false≢true h)

@@ -8,7 +8,7 @@ use mathlib.Core.List.{List, [], ◌∷◌, ◌++◌}
 use lib.ListN.{length}
 use borrow.Author.Tests.{eq-eqb, ne_eqb, le-leb, lt-ltb}
 use Rattle.names.specs.Names.{segment_order}
-use Rattle.names.specs.declared.Order.TheVariants.{Less}
+use Rattle.std.specs.declared.cmp.Ordering.TheVariants.{Less}
 use Rattle.layout.specs.Layout.{word_size, prop_field, entry_size, serial_field, slot_field, long_offset_field, first_free, byte_of, place_of, word_at, entry_takes, value_takes}
 use Rattle.serials.specs.Serial.{long_in}
 use Rattle.property_info.proofs.Laws.{long-is, short-is}

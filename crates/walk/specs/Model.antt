@@ -2,13 +2,13 @@
 use Rattle.std.specs.Prelude.{ℕ, zero, suc, ◌+◌, ◌-◌, ◌*◌, ◌/◌, ◌%◌, Bool, true, false, cond, not, ◌&&◌, List, [], ◌∷◌, get_or, eqb, leb, ltb}
 use Rattle.words.specs.Words.{first_in}
 use Rattle.names.specs.Names.{dot, segment_order}
-use Rattle.names.specs.declared.Order.{Order}
+use Rattle.std.specs.declared.cmp.Ordering.{Ordering}
 use Rattle.layout.specs.Refusals.{guard}
 use Rattle.layout.specs.Layout.{word_size, node_size, namelen_field, prop_field, left_field, right_field, children_field, entry_size, slot_field, long_offset_field, root_at, first_free, data_size, byte_of, place_of, word_at}
 use Rattle.property_info.specs.Entry.{is_long}
 use Rattle.sound.specs.Ways.{Dir, to_left, to_below, to_right}
 use Rattle.walk.specs.Marks.{all, is_zero, can_take, fill, write, read}
-use Rattle.walk.specs.Machine.{Phase, on, up, Taken, refused, taken, Done, halt, done, State, bad, here, go, step, run}
+use Rattle.walk.specs.Machine.{Taken, refused, taken, Done, halt, done, State, bad, here, go, step, run}
 
 -- ---- the used mark and the root
 unfoldable pub front_ok : List ℕ → ℕ → Bool
@@ -73,12 +73,6 @@ number_dir zero = to_left
 number_dir (suc zero) = to_below
 number_dir (suc (suc n)) = to_right
 
-abbrev pub number_phase : ℕ → Phase
-number_phase zero = on to_left
-number_phase (suc zero) = on to_below
-number_phase (suc (suc zero)) = on to_right
-number_phase (suc (suc (suc n))) = up
-
 abbrev pub parent_at : List ℕ → ℕ → ℕ
 parent_at marks n = read marks n / 3
 
@@ -104,10 +98,10 @@ enter_at area used marks link p dir =
     refused
 
 -- ---- a node's own work: its place in the order, its entry
-abbrev pub is_less : Order → Bool
-is_less Order.Less = true
-is_less Order.Equal = false
-is_less Order.Greater = false
+abbrev pub is_less : Ordering → Bool
+is_less Ordering.Less = true
+is_less Ordering.Equal = false
+is_less Ordering.Greater = false
 
 unfoldable pub follows : List ℕ → ℕ → ℕ → Bool
 follows area zero n = true

@@ -1,15 +1,21 @@
 -- Laws of specs/Words.antt: cases by a test, numbers by their bytes, a run of stores, the scan, sameness.
-use mathlib.Core.Path.{◌≡◌, refl, sym, ap, ◌∙◌}
-use mathlib.Core.Bool.{Bool, true, false}
-use mathlib.Core.List.{List, [], ◌∷◌, ◌++◌}
+use mathlib.Core.Path.{◌≡◌, refl, ap, ◌∙◌}
+use mathlib.Core.Bool.{Bool, true, false, not}
+use mathlib.Core.List.{List, [], ◌∷◌, append_assoc, append-nil}
 use Prim.Native.Nat.{ℕ, zero, suc, ◌+◌, ◌-◌, ◌*◌, ◌/◌, ◌%◌, ◌^◌, ◌≤◌, ◌<◌}
-use native.Mathlib.Nat.{zero-add, add-zero, add_assoc, pow-suc, div-lt_iff_lt-mul}
+use native.Mathlib.Nat.{add-zero, add_assoc, pow-suc, div-lt_iff_lt-mul}
 use native.Mathlib.Numerals.{add-one}
 use native.Mathlib.Omega.{arith}
-use borrow.Author.Tests.{eq-eqb, ne_eqb, eqb-true, eqb-false}
-use lib.Dec.{eqb}
-use lib.ListN.{length, get_or, set, take, drop, replicate, length-replicate, replicate-append-replicate, length-set, length-take, length-drop, drop_of_length-le}
-use lib.Seq.{ext_get_or, length-take-le, get_or-set_same, get_or-set_other, take-suc, drop-cons}
+use borrow.Author.Tests.{ltb-false, eq-eqb, eqb-true, eqb-false}
+use lib.Dec.{eqb, ltb}
+use lib.ListN.{length, get_or, set, take, drop, length-set, length-take, length-drop, drop_of_length-le}
+use lib.Seq.{get_or-set_same, get_or-set_other, drop-cons, drop-drop, sets, sets-eq, length-sets}
+use borrow.Rule.Slice.PartMut.{put_mid}
+use Rattle.std.specs.Prelude.{Option, MatchOption, nat_eq}
+use Rattle.std.specs.Int.{w32, to_le_bytes}
+use Rattle.std.specs.List.{position, position_or_len}
+use Rattle.std.specs.Cmp.Lexicographic.{pointwise}
+use Rattle.std.proofs.lemmas.List.Sums.{prefix_len-le-length}
 use Rattle.words.specs.Words.{little_at, little_bytes, part, first_in, same_bytes, put}
 
 -- a case by a test, with the test's value as an equation
@@ -22,7 +28,7 @@ pub clash {ℓ} : {P : Type ℓ} → ◌≡◌ {A = ℕ} 0 1 → P
 clash e = absurd (omega (arith, e))
 
 -- ---- numbers
--- a word by its four bytes, at the places that code names
+-- a word by its four bytes, at the places that `word` names
 pub word_bytes : (s : List ℕ) (at : ℕ) → little_at 4 s at ≡ get_or s at 0 + 256 * (get_or s (at + 1) 0 + 256 * (get_or s (at + 2) 0 + 256 * get_or s (at + 3) 0))
 unfolding little_at
 word_bytes s at = simp (add_assoc, add-zero)
@@ -47,34 +53,22 @@ length-little zero v = refl
 length-little (suc k) v = ap suc (length-little k (v / 256))
 
 -- ---- a run of stores
+-- the library's run of them
+put_sets : (s : List ℕ) (at : ℕ) (bs : List ℕ) → put s at bs ≡ sets s at bs
+unfolding put
+put_sets s at [] = refl
+put_sets s at (b ∷ bs) = rw add-one (put_sets (set s at b) (suc at) bs)
+
 pub put-length : (s : List ℕ) (at : ℕ) (bs : List ℕ) → length (put s at bs) ≡ length s
-unfolding put
-put-length s at [] = refl
-put-length s at (b ∷ bs) = put-length (set s at b) (at + 1) bs ∙ simp length-set
+put-length s at bs = rw put_sets (length-sets s at bs)
 
--- four stores, as code makes them
-pub put_four : (s : List ℕ) (at v : ℕ) →
-    put s at (little_bytes 4 v)
-    ≡ set (set (set (set s at (v % 256)) (at + 1) (v / 256 % 256)) (at + 2) (v / 256 / 256 % 256)) (at + 3) (v / 256 / 256 / 256 % 256)
-unfolding put little_bytes
-put_four s at v = simp add_assoc
-
--- one store more at the end of a run
-pub put-more : (s : List ℕ) (at : ℕ) (bs : List ℕ) (b : ℕ) → put s at (bs ++ (b ∷ [])) ≡ set (put s at bs) (at + length bs) b
-unfolding put
-put-more s at [] b = rw add-zero
-put-more s at (c ∷ bs) b =
-    let e : at + suc (length bs) ≡ at + 1 + length bs = omega arith in
-    put-more (set s at c) (at + 1) bs b ∙ rw e
-
-pub put-take : (s : List ℕ) (at : ℕ) (bs : List ℕ) (i : ℕ) → i < length bs → set (put s at (take i bs)) (at + i) (get_or bs i 0) ≡ put s at (take (i + 1) bs)
-put-take s at bs i h =
-    let n : length (take i bs) ≡ i = length-take-le i bs (omega arith) in
-    rw (add-one, take-suc bs i 0, put-more, n)
-
--- one byte more of the same
-pub put-again : (s : List ℕ) (at k b : ℕ) → set (put s at (replicate k b)) (at + k) b ≡ put s at (replicate (k + 1) b)
-put-again s at k b = rw (← replicate-append-replicate {A = ℕ} k 1 b, put-more, length-replicate)
+-- the four bytes of a word are those that `to_le_bytes` gives
+pub little_word : (v : ℕ) → to_le_bytes w32 v ≡ little_bytes 4 v
+unfolding little_bytes
+little_word v =
+    let e : v / 256 ^ 2 % 256 ≡ v / 256 / 256 % 256 = omega arith in
+    let f : v / 256 ^ 3 % 256 ≡ v / 256 / 256 / 256 % 256 = omega arith in
+    rw (e, f)
 
 -- what stands before it, behind it and in it
 pub put-before : (s : List ℕ) (at : ℕ) (bs : List ℕ) (j : ℕ) → j < at → get_or (put s at bs) j 0 ≡ get_or s j 0
@@ -108,35 +102,47 @@ little-put-same (suc k) s i v f h =
     little-put-same k (set s i (v % 256)) (i + 1) (v / 256) (simp length-set (omega arith)) b in
     omega (arith, e, g)
 
+-- what a method that writes a part of a slice leaves
+pub put_part : (s : List ℕ) (at k : ℕ) (bs : List ℕ) → length bs ≡ k → at + k ≤ length s → put_mid at k s bs ≡ put s at bs
+put_part s at k bs n h = rw (put_sets, sets-eq bs s at (omega arith), drop-drop, n, append_assoc)
+
 -- a whole list replaced
 pub put_whole : (s bs : List ℕ) → length bs ≡ length s → put s 0 bs ≡ bs
-put_whole s bs h =
-    ext_get_or 0 (put s 0 bs) bs (put-length s 0 bs ∙ sym h)
-    (λ k l. rw zero-add at (put_same s 0 bs k (omega (arith, put-length s 0 bs)) (omega arith)))
+put_whole s bs h = rw (put_sets, sets-eq bs s 0 (omega arith), drop_of_length-le s {i = 0 + length bs} (omega arith), append-nil)
 
 -- ---- a part
 pub part_length : (s : List ℕ) (from to : ℕ) → from ≤ to → to ≤ length s → length (part s from to) ≡ to - from
 part_length s from to h k = simp (length-take, length-drop) (omega arith)
 
 -- ---- the scan
-module _ (b : ℕ) (s : List ℕ) (i to : ℕ) where
-  pub first-hit : i < to → get_or s i 0 ≡ b → first_in b s i (to - i) ≡ i
-  unfolding first_in
-  first-hit h z =
-      let e : to - i ≡ suc (to - (i + 1)) = omega arith in
-      rw (e, eq-eqb (get_or s i 0) b z)
+pub first-end : (b : ℕ) (s : List ℕ) (i to : ℕ) → to ≤ i → first_in b s i (to - i) ≡ i
+unfolding first_in
+first-end b s i to h =
+    let e : to - i ≡ 0 = omega arith in
+    rw e
 
-  pub first-miss : i < to → (get_or s i 0 ≡ b → ⊥) → first_in b s i (to - i) ≡ first_in b s (i + 1) (to - (i + 1))
-  unfolding first_in
-  first-miss h z =
-      let e : to - i ≡ suc (to - (i + 1)) = omega arith in
-      rw (e, ne_eqb (get_or s i 0) b z)
+-- it counts the bytes before the first b, and so finds what `position` finds
+first_counts : (b : ℕ) (s : List ℕ) (at k : ℕ) → at + k ≤ length s → first_in b s at k ≡ at + position_or_len (λ x. eqb x b) (take k (drop at s))
+unfolding first_in
+first_counts b s at zero h = rw add-zero
+first_counts b s at (suc k) h =
+    let cut : drop at s ≡ get_or s at 0 ∷ drop (suc at) s = drop-cons s at 0 (omega arith) in
+    rw cut
+    (bool_cases (eqb (get_or s at 0) b)
+    (λ e. rw (e, add-zero))
+    (λ e. rw (e, first_counts b s (at + 1) k (omega arith), add-one) (omega arith)))
 
-  pub first-end : to ≤ i → first_in b s i (to - i) ≡ i
-  unfolding first_in
-  first-end h =
-      let e : to - i ≡ 0 = omega arith in
-      rw e
+pub first_found : (b : ℕ) (s : List ℕ) (from to : ℕ) → from ≤ to → to ≤ length s → (o : Option ℕ) → o ≡ position (λ x. eqb x b) (part s from to)
+    → (r : ℕ) → MatchOption o (r ≡ to) (λ i. r ≡ from + i) → r ≡ first_in b s from (to - from)
+first_found b s from to h k o e r m =
+    let bytes = part s from to in
+    let place = position_or_len (λ x. eqb x b) bytes in
+    rw (first_counts b s from (to - from) (omega arith))
+    (bool_cases (ltb place (length bytes))
+    (λ t. rw (e, t) at m)
+    (λ t.
+    let last : r ≡ to = rw (e, t) at m in
+    omega (arith, last, part_length s from to h k, ltb-false place (length bytes) t, prefix_len-le-length (λ x. not (eqb x b)) bytes)))
 
 -- it ends within the bytes scanned
 pub first-low : (b : ℕ) (s : List ℕ) (at k : ℕ) → at ≤ first_in b s at k
@@ -178,29 +184,13 @@ first-there b s at (suc k) h =
     let m : first_in b s (at + 1) k < at + suc k = rw t at h in
     rw t (first-there b s (at + 1) k (omega arith)))
 
--- ---- sameness
-pub same_length : (a b : List ℕ) → (length a ≡ length b → ⊥) → false ≡ same_bytes a b
+-- ---- sameness: it is the library's `==`
+pub same_pointwise : (a b : List ℕ) → pointwise nat_eq a b ≡ same_bytes a b
 unfolding same_bytes
-same_length [] [] h = absurd (h refl)
-same_length [] (y ∷ ys) h = refl
-same_length (x ∷ xs) [] h = refl
-same_length (x ∷ xs) (y ∷ ys) h =
-    bool_cases (eqb x y)
-    (λ e. rw e (same_length xs ys (λ z. h (ap suc z))))
-    (λ e. rw e)
-
-module _ (a b : List ℕ) (i : ℕ) (ha : i < length a) (hb : i < length b) where
-  pub same_not : (get_or a i 0 ≡ get_or b i 0 → ⊥) → false ≡ same_bytes (drop i a) (drop i b)
-  unfolding same_bytes
-  same_not h = rw (drop-cons a i 0, drop-cons b i 0, ne_eqb (get_or a i 0) (get_or b i 0) h)
-
-  pub same-on : get_or a i 0 ≡ get_or b i 0 → same_bytes (drop i a) (drop i b) ≡ same_bytes (drop (i + 1) a) (drop (i + 1) b)
-  unfolding same_bytes
-  same-on h = rw (drop-cons a i 0, drop-cons b i 0, eq-eqb (get_or a i 0) (get_or b i 0) h, add-one)
-
-pub same_end : (a b : List ℕ) (i : ℕ) → length a ≤ i → length b ≤ i → true ≡ same_bytes (drop i a) (drop i b)
-unfolding same_bytes
-same_end a b i h k = rw (drop_of_length-le a {i = i} h, drop_of_length-le b {i = i} k)
+same_pointwise [] [] = refl
+same_pointwise [] (y ∷ ys) = refl
+same_pointwise (x ∷ xs) [] = refl
+same_pointwise (x ∷ xs) (y ∷ ys) = rw (same_pointwise xs ys)
 
 -- it tells equal runs of bytes from others
 pub same-eq : (a b : List ℕ) → same_bytes a b ≡ true → a ≡ b

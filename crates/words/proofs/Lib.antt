@@ -1,3 +1,4 @@
 pub mod Laws
 pub mod StoreLaws
 pub mod Promises
+pub mod Named

@@ -1,3 +1,3 @@
 pub mod OrderLaws
 pub mod PathLaws
-pub mod WorkLaws
+pub mod Named

@@ -4,7 +4,9 @@
 #![tactic(auto)]
 
 mod paths;
+mod sibling;
 mod siblings;
 mod works;
 
-pub use works::{Own, own_work};
+pub use sibling::Sibling;
+pub use works::own_work;

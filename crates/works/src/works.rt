@@ -1,84 +1,89 @@
 // A node's own work: its place in the order, its entry, the entry's value.
-ghost use Rattle.std.specs.Prelude.{◌≡◌, cond, [], ◌∷◌, ℕ, ◌<◌};
-ghost use Rattle.layout.specs.Layout.{EntryIn};
+ghost use Rattle.std.specs.Prelude.{◌≡◌, cond, [], ◌∷◌, ◌≤◌, ◌<◌, is_ok, IfOk, IfSome};
+ghost use Rattle.layout.specs.Layout.{EntryIn, byte_of};
 ghost use Rattle.walk.specs.Machine.{halt, done};
-ghost use Rattle.walk.specs.Model.{value_work, entry_work, own_work};
-ghost use Rattle.probes.specs.Limits.{word_limit, node_limit, UsedIn};
-ghost use Rattle.works.specs.View.{own_done};
-ghost use Rattle.works.specs.declared.works.Own.{Own};
+ghost use Rattle.walk.specs.Model.{room_to, value_work, entry_work, own_work};
+ghost use Rattle.probes.specs.Limits.{word_limit, place_limit};
+ghost use Rattle.works.specs.View.{before_of, own_done};
 
 use crate::paths::is_path;
+use crate::sibling::Sibling;
 use crate::siblings::follows;
 use layout::{Entry, Header, Node};
-use probes::{field, take, text_end};
+use probes::{Damaged, NodeNumber, Used, take};
 
-// What a node's own work finds.
-#[derive(Clone, Copy)]
-pub enum Own {
-    Bare,
-    // The entry's offset.
-    Entry(usize),
-    Damaged,
+// The words of an object at an offset whose text ends with a zero at a place.
+fn room_to(at: usize, zero: usize) -> usize
+    requires { (byte_of at ≤ zero) × (zero < place_limit) }
+    ensures { result ≡ room_to at zero }
+{
+    (zero + 1 - (Header::SIZE + at)).div_ceil(4)
 }
 
+// The marks stand beside the area, since they are lent to be written; so does an offset at which an entry lies, for it is that area's.
+// What is below the limit of words is an offset here, a count of words or a link there, and a place or a number in probes: no one type is all of them.
+
 // Whether a value is as it ought to be: a slot with a zero, or a text behind the entry's k words, whose words it takes.
-fn value_work(area: &[u8], marks: &mut [u8], used: usize, at: usize, k: usize) -> bool
-    requires { (UsedIn area.now used) × (EntryIn area.now at) × (k < word_limit) }
-    ensures { cond result (done marks.new (at ∷ [])) halt ≡ value_work area.now used marks.old at k }
+#[tactic(auto, unfolding(walk::specs::Model::value_work))]
+fn value_work(used: Used<'_>, marks: &mut [u8], at: usize, k: usize) -> Result<(), Damaged>
+    requires { (EntryIn used.area.now at) × (k < word_limit) }
+    ensures { cond (is_ok result) (done marks.new (at ∷ [])) halt ≡ value_work used.entry.area.now used.entry.mark marks.old at k }
 {
-    let entry = Entry { at };
-    if !property_info::is_long(area, entry) {
+    let entry = Entry {
+        area: used.area,
+        at,
+    };
+    if !property_info::is_long(entry) {
         let end = Header::SIZE + at + Entry::SIZE;
-        let zero = words::first(area, 0, Header::SIZE + at + Entry::VALUE, end);
-        return zero < end;
+        let zero = words::first(used.area, 0, Header::SIZE + at + Entry::VALUE, end);
+        if end <= zero {
+            return Err(Damaged);
+        }
+        return Ok(());
     }
-    let relative = entry.long_offset(area) as usize;
+    let relative = entry.long_offset() as usize;
     if relative < k * 4 {
-        return false;
+        return Err(Damaged);
     }
     let far = at + relative;
-    let zero = text_end(area, used, far, Header::SIZE + far);
-    if zero == 0 {
-        return false;
-    }
-    take(marks, far / 4, (zero + 1 - (Header::SIZE + far) + 3) / 4)
+    let zero = used.text_end(far, Header::SIZE + far).ok_or(Damaged)?;
+    take(marks, far / 4, room_to(far, zero))
 }
 
 // Whether the entry at an offset is node n's: its name the node's path, its words free; it takes them.
-fn entry_work(area: &[u8], marks: &mut [u8], used: usize, n: usize, at: usize) -> bool
-    requires { (UsedIn area.now used) × (n < node_limit) × (0 < at) × (at < word_limit) }
-    ensures { cond result (done marks.new (at ∷ [])) halt ≡ entry_work area.now used marks.old n at }
+#[tactic(auto, unfolding(walk::specs::Model::entry_work))]
+fn entry_work(used: Used<'_>, marks: &mut [u8], n: NodeNumber, at: usize) -> Result<(), Damaged>
+    requires { (0 < at) × (at < word_limit) }
+    ensures { cond (is_ok result) (done marks.new (at ∷ [])) halt ≡ entry_work used.entry.area.now used.entry.mark marks.old n.word at }
 {
     let from = Header::SIZE + at + Entry::SIZE;
-    let zero = text_end(area, used, at, from);
-    if zero == 0 {
-        return false;
+    let zero = used.text_end(at, from).ok_or(Damaged)?;
+    if !is_path(used.area, marks, n, from, zero) {
+        return Err(Damaged);
     }
-    if !is_path(area, marks, n, from, zero) {
-        return false;
-    }
-    let k = (zero + 1 - (Header::SIZE + at) + 3) / 4;
-    if !take(marks, at / 4, k) {
-        return false;
-    }
-    value_work(area, marks, used, at, k)
+    let k = room_to(at, zero);
+    take(marks, at / 4, k)?;
+    value_work(used, marks, at, k)
 }
 
-// A node's own work, with the node before it.
-pub fn own_work(area: &[u8], marks: &mut [u8], used: usize, n: usize, before: usize) -> Own
-    requires { (UsedIn area.now used) × (n < node_limit) × (before < node_limit) }
-    ensures says { own_done result marks.new ≡ own_work area.now used marks.old n before }
-    ensures bounds { (at : ℕ) → result ≡ Own.Entry at → (0 < at) × (at < word_limit) }
+// A node's own work, with the node before it: its entry's offset, if it has one.
+#[tactic(auto, unfolding(walk::specs::Model::own_work, walk::specs::Model::entry_work))]
+pub fn own_work(
+    used: Used<'_>,
+    marks: &mut [u8],
+    n: NodeNumber,
+    before: Option<Sibling>,
+) -> Result<Option<usize>, Damaged>
+    ensures says { own_done result marks.new ≡ own_work used.entry.area.now used.entry.mark marks.old n.word (before_of before) }
+    ensures bounds { IfOk result (λ seen. IfSome seen (λ at. (0 < at) × (at < word_limit))) }
 {
-    if !follows(area, before, n) {
-        return Own::Damaged;
+    if !follows(used.area, before, n) {
+        return Err(Damaged);
     }
-    let at = field(area, n, Node::PROP) as usize;
+    let at = n.field(used.area, Node::PROP) as usize;
     if at == 0 {
-        return Own::Bare;
+        return Ok(None);
     }
-    if !entry_work(area, marks, used, n, at) {
-        return Own::Damaged;
-    }
-    Own::Entry(at)
+    entry_work(used, marks, n, at)?;
+    Ok(Some(at))
 }

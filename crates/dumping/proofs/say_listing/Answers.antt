@@ -1,9 +1,9 @@
--- `say_listing` leaves what `said` says of the first line and the entries' lines. Assumes nothing.
-use Rattle.texts.proofs.Laws.{said-then, said-within}
+use lib.ListN.{length}
+use Rattle.audit.specs.Check.{used_of}
+use Rattle.dumping.specs.Dump.{head_text}
+use Rattle.dumping.proofs.Laws.{lines-more}
 use Rattle.dumping.proofs.say_listing.Goals as goal
 
-pub say_entries-requires : goal.say_entries-requires
-say_entries-requires c = (said-within _ _ _ _ _ c.say_head-told.ensures).0
-
-pub returns : goal.returns
-returns c = said-then _ _ _ _ c.say_head-told.ensures c.say_entries.ensures
+pub loop-offset-preserved : goal.loop-offset-preserved
+loop-offset-preserved c =
+    lines-more _ _ (head_text (length c.args.offsets.now) (used_of c.args.area.now)) _ c.loop-offset-test.true c.loop-offset.invariant c.say_entry.ensures

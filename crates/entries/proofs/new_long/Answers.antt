@@ -1,42 +1,27 @@
--- `new_long` comes to what `long_entry` says: a law for each way out. That the value stands behind the entry follows from where its room was given.
--- Assumes nothing.
-use mathlib.Core.Path.{sym, ◌∙◌}
+-- The value has room in the area, and stands behind the entry, as follows from where its room was given. Assumes nothing.
 use native.Mathlib.Nat.{zero-add}
 use native.Mathlib.Omega.{arith}
+use lib.ListN.{length}
+use Rattle.layout.specs.Layout.{value_takes}
 use Rattle.allocation.proofs.StepLaws.{placed_at}
-use Rattle.allocation.proofs.AllocateLaws.{allocate-room}
-use Rattle.entries.proofs.Laws.{lay-out, lay-goes, long-stop, long-goes}
+use Rattle.allocation.proofs.AllocateLaws.{Room, allocate-room}
 use Rattle.entries.proofs.new_long.Goals as goal
+use Rattle.entries.proofs.new_long.Goals.{In_ok-far}
 
-pub returns-in_default : goal.returns-in_default
-returns-in_default c = long-stop _ _ _ _ _ _ (rw zero-add at c.allocate_obj-room.ensures) _ c.in_default.is
+-- what is known of the value's room
+room : (c : In_ok-far) → Room c.args.area.now c.allocate_obj.new.area (value_takes (length c.args.value.now)) c.in_ok-far.far
+room c = allocate-room _ _ _ _ (placed_at _ _ _ (rw zero-add at c.allocate_obj.ensures) _ c.in_ok-far.was)
 
 pub overflow_add-far : goal.overflow_add-far
-overflow_add-far c =
-    let r = allocate-room _ _ _ _ (placed_at _ _ _ (rw zero-add at c.allocate_obj-room.ensures) _ c.in-At.is) in
-    omega (arith, r.small)
+overflow_add-far c = omega (arith, (room (goal.at.overflow_add-far c).In_ok-far).small)
 
 pub put_text-requires : goal.put_text-requires
 put_text-requires c =
-    let r = allocate-room _ _ _ _ (placed_at _ _ _ (rw zero-add at c.allocate_obj-room.ensures) _ c.in-At.is) in
+    let r = room (goal.at.put_text-requires c).In_ok-far in
     omega (arith, r.fits, r.kept)
 
-pub returns-then-not-touched : goal.returns-then-not-touched
-returns-then-not-touched c =
-    long-goes _ _ _ _ _ _ (placed_at _ _ _ (rw zero-add at c.allocate_obj-room.ensures) _ c.in-At.is) _ c.put_text.ensures _
-    (lay-out _ _ _ _ (sym c.touched.ensures ∙ c.if-not-touched.true))
-
 pub overflow_sub-far : goal.overflow_sub-far
-overflow_sub-far c =
-    let r = allocate-room _ _ _ _ (placed_at _ _ _ (rw zero-add at c.allocate_obj-room.ensures) _ c.in-At.is) in
-    omega (arith, r.begins)
+overflow_sub-far c = omega (arith, (room (goal.at.overflow_sub-far c).In_ok-far).begins)
 
 pub overflow_cast-far : goal.overflow_cast-far
-overflow_cast-far c =
-    let r = allocate-room _ _ _ _ (placed_at _ _ _ (rw zero-add at c.allocate_obj-room.ensures) _ c.in-At.is) in
-    omega (arith, r.small)
-
-pub returns : goal.returns
-returns c =
-    long-goes _ _ _ _ _ _ (placed_at _ _ _ (rw zero-add at c.allocate_obj-room.ensures) _ c.in-At.is) _ c.put_text.ensures _
-    (lay-goes _ _ _ _ (sym c.touched.ensures ∙ c.if-not-touched.false) _ _ c.init_with_long_offset.ensures c.put_text-2.ensures)
+overflow_cast-far c = omega (arith, (room (goal.at.overflow_cast-far c).In_ok-far).small)

@@ -2,5 +2,5 @@
 use Rattle.programs.proofs.Laws.{readable-counts}
 use Rattle.programs.proofs.read_whole.Goals as goal
 
-pub returns : goal.returns
-returns c = rw c.readable_size.ensures (readable-counts _ _ _ c.read_full-size.ensures)
+pub returns-else-size-buf : goal.returns-else-size-buf
+returns-else-size-buf c = rw c.readable_size.ensures (readable-counts _ _ _ c.read_full-size.ensures)

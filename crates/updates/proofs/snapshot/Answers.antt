@@ -20,4 +20,4 @@ pub overflow_sub-result : goal.overflow_sub-result
 overflow_sub-result c = slot-low _ _ _ c.first-to.ensures
 
 pub returns : goal.returns
-returns c = slot-copied _ _ _ c.first-to.ensures c.requires.0 _ _ c.requires.1 c.copy.ensures
+returns c = slot-copied _ _ _ c.first-to.ensures c.args.entry.inside _ _ c.requires c.copy.ensures

@@ -1,16 +1,17 @@
-use mathlib.Core.Path.{refl, sym, ◌∙◌}
+-- `words::first` gives the place that `first_in` says. Assumes nothing.
+use mathlib.Core.Path.{◌≡◌}
 use native.Mathlib.Omega.{arith}
-use Rattle.words.proofs.Laws.{first-hit, first-miss, first-end}
+use lib.Dec.{eqb}
+use Rattle.std.specs.List.{position}
+use Rattle.std.proofs.Common.{rules, tests}
+use Rattle.std.proofs.lemmas.Iterator.{YieldsList-from_slice}
+use Rattle.std.proofs.lemmas.Iterator.Search.{position_from_yields_List}
+use Rattle.words.specs.Words.{part}
+use Rattle.words.proofs.Laws.{first_found}
 use Rattle.words.proofs.first.Goals as goal
 
-pub loop-i-init : goal.loop-i-init
-loop-i-init c = (c.requires.0, refl)
-
-pub returns-then-s-i : goal.returns-then-s-i
-returns-then-s-i c = sym (c.loop-i.invariant.1 ∙ first-hit _ _ _ _ c.loop-i-test.true c.if-s-i.true)
-
-pub loop-i-preserved : goal.loop-i-preserved
-loop-i-preserved c = (omega arith, c.loop-i.invariant.1 ∙ first-miss _ _ _ _ c.loop-i-test.true c.if-s-i.false)
-
 pub returns : goal.returns
-returns c = sym (c.loop-i.invariant.1 ∙ first-end _ _ _ _ c.loop-i-test.false)
+returns c =
+    let found : c.position.result ≡ position (λ x. eqb x c.args.b) (part c.args.s.now c.args.from c.args.to) =
+    position_from_yields_List (λ x. eqb x c.args.b) _ _ _ c.position.ensures.ran (YieldsList-from_slice _ c.iter.ensures.rest) (λ x b q k. search (rules, tests)) in
+    first_found _ _ _ _ (omega arith) (omega arith) _ found _ (search (rules, tests))

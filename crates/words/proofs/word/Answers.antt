@@ -1,6 +1,7 @@
--- `words::word` gives the number that `little_at` says; that each byte is below 256 comes from `wide`. Assumes nothing.
+-- `words::word` gives the number that `little_at` says. Assumes nothing.
+use native.Mathlib.Omega.{arith}
 use Rattle.words.proofs.Laws.{word_bytes}
 use Rattle.words.proofs.word.Goals as goal
 
 pub returns : goal.returns
-returns c = rw word_bytes (cc)
+returns c = rw word_bytes (omega (arith, c.from_le_bytes.ensures))

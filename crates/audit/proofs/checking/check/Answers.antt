@@ -1,11 +1,13 @@
 -- `checking::check` accepts where there is a count, and refuses as the count does. Assumes nothing.
+use mathlib.Core.Path.{◌∙◌}
+use Rattle.layout.proofs.Laws.{verdict-handed}
 use Rattle.audit.proofs.CheckLaws.{check-entries, check-refused}
 use Rattle.audit.proofs.checking.check.Goals as goal
 
-pub returns-in-Entries : goal.returns-in-Entries
-returns-in-Entries c =
-    check-entries c.args.area.now c.args.scratch.now c.count.new.scratch c.count.result c.count.ensures c.in-Entries.entries c.in-Entries.is
+pub returns-in_err-count : goal.returns-in_err-count
+returns-in_err-count c = λ judged.
+    verdict-handed c.from_residual.result _ _ c.from_residual.ensures.1
+    ∙ check-refused c.args.area.now c.args.scratch.now c.count.new.scratch c.count.result c.count.ensures _ c.in_err-count.was judged
 
-pub returns-in-Refused : goal.returns-in-Refused
-returns-in-Refused c =
-    check-refused c.args.area.now c.args.scratch.now c.count.new.scratch c.count.result c.count.ensures c.in-Refused.why c.in-Refused.is
+pub returns : goal.returns
+returns c = check-entries c.args.area.now c.args.scratch.now c.count.new.scratch c.count.result c.count.ensures _ c.in_ok-count.was

@@ -1,17 +1,8 @@
 -- `checking::count` makes the tests of the header and of scratch, then surveys with no list. Assumes nothing.
 use mathlib.Core.Path.{sym, ◌∙◌}
 use Rattle.audit.specs.Check.{listed_answer}
-use Rattle.audit.proofs.CheckLaws.{count-header, count-short, count-judged}
+use Rattle.audit.proofs.CheckLaws.{count-judged}
 use Rattle.audit.proofs.checking.count.Goals as goal
-
-pub returns-then-not-header_ok : goal.returns-then-not-header_ok
-returns-then-not-header_ok c = count-header c.args.area.now c.args.scratch.now (sym c.header_ok.ensures ∙ c.if-not-header_ok.true)
-
-pub returns-then-scratch-area : goal.returns-then-scratch-area
-returns-then-scratch-area c = count-short c.args.area.now c.args.scratch.now (sym c.header_ok.ensures ∙ c.if-not-header_ok.false) c.if-scratch-area.true
-
-pub survey-requires : goal.survey-requires
-survey-requires c = ((sym c.header_ok.ensures ∙ c.if-not-header_ok.false), c.if-scratch-area.false)
 
 pub returns : goal.returns
 returns c =

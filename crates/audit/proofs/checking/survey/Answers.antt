@@ -1,41 +1,51 @@
 -- `checking::survey` clears scratch, walks, clears it again, and tells what the walk decided. Assumes nothing.
-use mathlib.Core.Path.{sym, ap, ◌∙◌}
-use borrow.Author.Tests.{not-true, not-false}
+use mathlib.Core.Path.{refl, sym, ap, ◌∙◌}
+use mathlib.Core.Bool.{true, false}
 use lib.ListN.{length}
 use Rattle.words.specs.Words.{put}
-use Rattle.audit.proofs.CheckLaws.{header-word, tour-fits, blank-again, front-none, walk_none, walk-tree, walk-listed, none-judged, tree-judged}
-use borrow.Author.Rules.{rules}
+use Rattle.layout.specs.declared.refusal.Refusal.{Refusal}
+use Rattle.layout.proofs.Laws.{handed-on}
+use Rattle.audit.specs.Check.{listed_answer}
+use Rattle.audit.proofs.CheckLaws.{header-word, tour-fits, front-none, walk_none, walk-tree, walk-listed, none-judged, tree-judged}
 use Rattle.audit.proofs.checking.survey.Goals as goal
 
-pub word-used-requires : goal.word-used-requires
-word-used-requires c = header-word c.args.area.now c.requires.0
+pub word-mark-requires : goal.word-mark-requires
+word-mark-requires c = header-word c.args.area.now c.requires.0
 
-pub returns-then-not-front_ok : goal.returns-then-not-front_ok
-returns-then-not-front_ok c =
-    let none = front-none c.args.area.now c.word-used.result c.word-used.ensures (sym c.front_ok.ensures ∙ c.if-not-front_ok.true) in
-    record { clears = c.clear.ensures; judges = none-judged c.args.area.now none; notes = λ tree S. absurd (none tree S) }
+pub returns-then-not-front_ok-clause-judges : goal.returns-then-not-front_ok-clause-judges
+returns-then-not-front_ok-clause-judges c = none-judged c.args.area.now (front-none c.args.area.now c.word-mark.result c.word-mark.ensures (sym c.front_ok.ensures ∙ c.if-not-front_ok.true))
 
-pub tour-walked-requires : goal.tour-walked-requires
-tour-walked-requires c =
-    tour-fits c.args.area.now c.word-used.result c.word-used.ensures c.requires.0 (sym c.front_ok.ensures ∙ c.if-not-front_ok.false)
+pub returns-then-not-front_ok-clause-notes : goal.returns-then-not-front_ok-clause-notes
+returns-then-not-front_ok-clause-notes c = λ tree S. absurd (front-none c.args.area.now c.word-mark.result c.word-mark.ensures (sym c.front_ok.ensures ∙ c.if-not-front_ok.true) tree S)
 
-pub returns-then-not-walked : goal.returns-then-not-walked
-returns-then-not-walked c =
+pub invariant_of-tour : goal.invariant_of-tour
+invariant_of-tour c = record { inside = tour-fits c.args.area.now c.word-mark.result c.word-mark.ensures c.requires.0 (sym c.front_ok.ensures ∙ c.if-not-front_ok.false) }
+
+pub returns-clause-judges : goal.returns-clause-judges
+returns-clause-judges c =
     let area = c.args.area.now in
-    let blank-left = c.clear-2.ensures ∙ blank-again c.args.scratch.now c.tour-walked.new.marks (search rules) in
     let front = sym c.front_ok.ensures ∙ c.if-not-front_ok.false in
-    let none = walk_none area c.word-used.result c.word-used.ensures c.requires.0 front c.args.scratch.now c.clear.new.s c.clear.ensures c.requires.1 c.tour-walked.result.ended c.tour-walked.ensures.ends (not-true _ c.if-not-walked.true) in
-    record { clears = blank-left; judges = none-judged area none; notes = λ tree S. absurd (none tree S) }
+    let found = walk-tree area c.word-mark.result c.word-mark.ensures c.requires.0 front c.args.scratch.now c.clear.new.s c.clear.ensures c.requires.1 true c.in_ok-walked.ensures.ends refl in
+    let lists = walk-listed area c.word-mark.result c.word-mark.ensures c.requires.0 front c.args.scratch.now c.clear.new.s c.clear.ensures c.requires.1 in
+    tree-judged area found.0 found.1 c.in_ok-walked.field-0 (λ tree S. c.in_ok-walked.ensures.notes.0 ∙ ap length (lists tree S))
 
-pub returns : goal.returns
-returns c =
-    let area = c.args.area.now in
-    let blank-left = c.clear-2.ensures ∙ blank-again c.args.scratch.now c.tour-walked.new.marks (search rules) in
+pub returns-clause-notes : goal.returns-clause-notes
+returns-clause-notes c =
     let front = sym c.front_ok.ensures ∙ c.if-not-front_ok.false in
-    let ended = not-false _ c.if-not-walked.false in
-    let found = walk-tree area c.word-used.result c.word-used.ensures c.requires.0 front c.args.scratch.now c.clear.new.s c.clear.ensures c.requires.1 c.tour-walked.result.ended c.tour-walked.ensures.ends ended in
-    let lists = walk-listed area c.word-used.result c.word-used.ensures c.requires.0 front c.args.scratch.now c.clear.new.s c.clear.ensures c.requires.1 in record {
-      clears = blank-left;
-      judges = tree-judged area found.0 found.1 c.tour-walked.result.entries (λ tree S. (c.tour-walked.ensures.notes ended).0 ∙ ap length (lists tree S));
-      notes = λ tree S. (c.tour-walked.ensures.notes ended).1 ∙ ap (put c.args.list.now 0) (lists tree S);
-    }
+    let lists = walk-listed c.args.area.now c.word-mark.result c.word-mark.ensures c.requires.0 front c.args.scratch.now c.clear.new.s c.clear.ensures c.requires.1 in
+    λ tree S. c.in_ok-walked.ensures.notes.1 ∙ ap (put c.args.list.now 0) (lists tree S)
+
+pub returns-in_err-walked-clause-judges : goal.returns-in_err-walked-clause-judges
+returns-in_err-walked-clause-judges c =
+    let front = sym c.front_ok.ensures ∙ c.if-not-front_ok.false in
+    λ judged.
+    ap listed_answer (handed-on c.from_residual.result Refusal.Damaged c.from_residual.ensures.1)
+    ∙ none-judged c.args.area.now
+    (walk_none c.args.area.now c.word-mark.result c.word-mark.ensures c.requires.0 front c.args.scratch.now c.clear.new.s c.clear.ensures c.requires.1 false c.in_err-walked.ensures.ends refl)
+    judged
+
+pub returns-in_err-walked-clause-notes : goal.returns-in_err-walked-clause-notes
+returns-in_err-walked-clause-notes c =
+    let front = sym c.front_ok.ensures ∙ c.if-not-front_ok.false in
+    λ tree S.
+    absurd (walk_none c.args.area.now c.word-mark.result c.word-mark.ensures c.requires.0 front c.args.scratch.now c.clear.new.s c.clear.ensures c.requires.1 false c.in_err-walked.ensures.ends refl tree S)

@@ -1,17 +1,13 @@
+-- `text_size` says how long the escaped text is: the total of its bytes' lengths. Assumes nothing.
+use Prim.Native.Nat.{◌^◌}
 use native.Mathlib.Omega.{arith}
-use Rattle.dumping.proofs.Counting.{text-turn, text-end}
+use Rattle.std.proofs.Common.{rules}
+use Rattle.std.proofs.lemmas.Iterator.{YieldsList-from_slice}
+use Rattle.std.proofs.lemmas.Iterator.Adapters.{fits_from_length, at_most_from_yields_List}
+use Rattle.layout.specs.Layout.{area_max}
+use Rattle.texts.proofs.Laws.{byte-few}
 use Rattle.dumping.proofs.sizes.text_size.Goals as goal
 
-pub loop-taken-init : goal.loop-taken-init
-loop-taken-init c = (omega arith, omega arith, omega arith)
-
-pub overflow_add-size : goal.overflow_add-size
-overflow_add-size c = omega (arith, (text-turn c.args.text.now _ c.loop-taken-test.true _ c.escaped_size-size.ensures).0)
-
-pub loop-taken-preserved : goal.loop-taken-preserved
-loop-taken-preserved c =
-    let t = text-turn c.args.text.now _ c.loop-taken-test.true _ c.escaped_size-size.ensures in
-    (omega arith, omega (arith, t.0), omega (arith, t.1))
-
-pub returns : goal.returns
-returns c = omega (arith, text-end c.args.text.now _ c.loop-taken-test.false)
+pub sum-requires-clause-fits : goal.sum-requires-clause-fits
+sum-requires-clause-fits c =
+    fits_from_length _ _ area_max (2 ^ 64) (at_most_from_yields_List (YieldsList-from_slice c.args.text.now cc) c.requires) c.map.ensures.closure (omega arith) (λ x r q k. search (rules, byte-few))

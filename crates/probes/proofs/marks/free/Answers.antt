@@ -1,17 +1,17 @@
-use mathlib.Core.Path.{sym, ◌∙◌}
-use native.Mathlib.Omega.{arith}
-use borrow.Author.Tests.{eq-eqb, ne_eqb}
-use Rattle.probes.proofs.MarkLaws.{all-begins, all-not, all-on, all_end}
+-- `marks::free` says whether all the words are zero: a test of each of them. Assumes nothing.
+use mathlib.Core.Path.{◌∙◌}
+use lib.Dec.{eqb}
+use Prim.Native.Nat.{◌+◌}
+use borrow.Author.Rules.{rules}
+use borrow.Author.Tests.{tests}
+use Rattle.std.specs.List.{slice_range}
+use Rattle.std.proofs.lemmas.Iterator.{YieldsList-from_slice}
+use Rattle.std.proofs.lemmas.Iterator.Search.{all_from_yields_List}
+use Rattle.probes.proofs.MarkLaws.{all_range}
 use Rattle.probes.proofs.marks.free.Goals as goal
 
-pub loop-i-init : goal.loop-i-init
-loop-i-init c = (omega arith, all-begins _ _ _)
-
-pub returns-then-marks-n-ne0 : goal.returns-then-marks-n-ne0
-returns-then-marks-n-ne0 c = sym (c.loop-i.invariant.1 ∙ all-not _ _ _ _ c.loop-i-test.true (ne_eqb _ _ c.if-marks-n-ne0.true))
-
-pub loop-i-preserved : goal.loop-i-preserved
-loop-i-preserved c = (omega arith, c.loop-i.invariant.1 ∙ all-on _ _ _ _ c.loop-i-test.true (eq-eqb _ _ c.if-marks-n-ne0.false))
-
 pub returns : goal.returns
-returns c = sym (c.loop-i.invariant.1 ∙ all_end _ _ _ _ c.loop-i-test.false)
+returns c =
+    let a = c.args in
+    all_from_yields_List (λ b. eqb b 0) _ _ _ c.all.ensures.ran (YieldsList-from_slice (slice_range a.marks.now a.n (a.n + a.k)) cc) (λ x b q k. search (rules, tests))
+    ∙ all_range (λ b. eqb b 0) a.marks.now a.n a.k c.requires

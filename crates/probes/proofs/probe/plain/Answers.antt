@@ -1,20 +1,17 @@
-use mathlib.Core.Path.{sym, ◌∙◌}
-use native.Mathlib.Omega.{arith}
-use Rattle.probes.proofs.MarkLaws.{all-begins, all-not, all-on, all_end}
-use Rattle.probes.proofs.ProbeLaws.{plain-zero, plain-dot, plain-yes}
+-- `probe::plain` says whether no byte is zero or dot: a test of each of them. Assumes nothing.
+use mathlib.Core.Path.{◌∙◌}
+use Prim.Native.Nat.{◌+◌}
+use borrow.Author.Rules.{rules}
+use borrow.Author.Tests.{tests}
+use Rattle.std.specs.List.{slice_range}
+use Rattle.std.proofs.lemmas.Iterator.{YieldsList-from_slice}
+use Rattle.std.proofs.lemmas.Iterator.Search.{all_from_yields_List}
+use Rattle.probes.proofs.MarkLaws.{all_range}
+use Rattle.probes.proofs.ProbeLaws.{plain_byte}
 use Rattle.probes.proofs.probe.plain.Goals as goal
 
-pub loop-i-init : goal.loop-i-init
-loop-i-init c = (omega arith, all-begins _ _ _)
-
-pub returns-then-b-eq0 : goal.returns-then-b-eq0
-returns-then-b-eq0 c = sym (c.loop-i.invariant.1 ∙ all-not _ _ _ _ c.loop-i-test.true (plain-zero _ c.if-b-eq0.true))
-
-pub returns-then-b-eq46 : goal.returns-then-b-eq46
-returns-then-b-eq46 c = sym (c.loop-i.invariant.1 ∙ all-not _ _ _ _ c.loop-i-test.true (plain-dot _ c.if-b-eq0.false c.if-b-eq46.true))
-
-pub loop-i-preserved : goal.loop-i-preserved
-loop-i-preserved c = (omega arith, c.loop-i.invariant.1 ∙ all-on _ _ _ _ c.loop-i-test.true (plain-yes _ c.if-b-eq0.false c.if-b-eq46.false))
-
 pub returns : goal.returns
-returns c = sym (c.loop-i.invariant.1 ∙ all_end _ _ _ _ c.loop-i-test.false)
+returns c =
+    let a = c.args in
+    all_from_yields_List plain_byte _ _ _ c.all.ensures.ran (YieldsList-from_slice (slice_range a.s.now a.from (a.from + a.k)) cc) (λ x b q k. search (rules, tests))
+    ∙ all_range plain_byte a.s.now a.from a.k c.requires

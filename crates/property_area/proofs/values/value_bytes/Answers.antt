@@ -1,18 +1,6 @@
--- `value_bytes` hands back the part that `part_or_none` says. Assumes nothing.
-use Rattle.property_area.proofs.ValueLaws.{value-stands, part_in, shown-bytes, shown-refused}
+-- `value_bytes`: the value lies in the area. Assumes nothing.
+use Rattle.property_area.proofs.ValueLaws.{value-stands, part_lies}
 use Rattle.property_area.proofs.values.value_bytes.Goals as goal
 
-pub returns-in_default : goal.returns-in_default
-returns-in_default c = shown-refused _ _ _ c.value-place.ensures _ c.in_default.is
-
-pub slice_bounds-result-count : goal.slice_bounds-result-count
-slice_bounds-result-count c = (part_in _ _ _ (value-stands _ _) _ c.value-place.ensures _ _ c.in-Bytes.is).low
-
-pub slice_bounds-result-start : goal.slice_bounds-result-start
-slice_bounds-result-start c = (part_in _ _ _ (value-stands _ _) _ c.value-place.ensures _ _ c.in-Bytes.is).low
-
-pub slice_bounds-result-end-2 : goal.slice_bounds-result-end-2
-slice_bounds-result-end-2 c = (part_in _ _ _ (value-stands _ _) _ c.value-place.ensures _ _ c.in-Bytes.is).high
-
-pub returns : goal.returns
-returns c = shown-bytes _ _ _ c.value-place.ensures _ _ c.in-Bytes.is
+pub part_bytes-requires : goal.part_bytes-requires
+part_bytes-requires c = part_lies _ _ _ (value-stands _ _) _ c.value.ensures

@@ -1,31 +1,26 @@
-use mathlib.Core.Path.{refl, sym, ◌∙◌}
+use mathlib.Core.Path.{sym, ◌∙◌}
 use Prim.Native.Nat.{◌-◌}
 use native.Mathlib.Omega.{arith}
-use Rattle.replay.proofs.ReplayLaws.{records-counted, fair-counted, replay-stops, replay-on, replay-ends}
-use borrow.Author.Rules.{rules}
+use Rattle.replay.specs.Replay.{count_record}
+use Rattle.replay.proofs.ReplayLaws.{replay-stops, replay-on, replay-ends}
 use Rattle.replay.proofs.replaying.replay_records.Goals as goal
 
-pub loop-left-init : goal.loop-left-init
-loop-left-init c =
-    let e = c.nothing-tally.ensures in
-    (refl, refl, rw e (omega arith), rw e (record { calls = omega arith; differences = omega arith }), rw e)
+pub returns-in-Err : goal.returns-in-Err
+returns-in-Err c =
+    let l = c.loop-done in
+    replay-stops _ _ (c.args.count - l.done - 1) _ _ _ _ _ _ _ l.auto.buffer c.play_at.ensures _ (omega arith) _ c.in-Err.is ∙ sym l.invariant.rest
 
-pub returns-in-Stopped : goal.returns-in-Stopped
-returns-in-Stopped c =
-    let l = c.loop-left in
-    replay-stops _ _ (l.left - 1) _ _ _ _ _ _ _ l.invariant.1 c.play_at.ensures _ (omega arith) _ c.in-Stopped.is ∙ sym l.invariant.4
-
-pub loop-left-preserved : goal.loop-left-preserved
-loop-left-preserved c =
-    let l = c.loop-left in (
-      search rules,
-      search rules,
-      omega (arith, records-counted _ _ _ _ c.counted-tally.ensures),
-      fair-counted _ _ _ _ c.counted-tally.ensures l.invariant.3,
-      l.invariant.4 ∙ replay-on _ _ _ _ _ _ _ _ _ _ l.invariant.1 c.play_at.ensures _ (omega arith) _ _ _ _ c.in-Done.is _ c.counted-tally.ensures,
-    )
+pub loop-done-preserved : goal.loop-done-preserved
+unfolding count_record
+loop-done-preserved c =
+    let l = c.loop-done in
+    record {
+      counted = rw c.counted-tally.ensures.value (omega (arith, l.invariant.counted));
+      fair = c.counted-tally.ensures.fair;
+      rest = l.invariant.rest ∙ replay-on _ _ _ _ _ _ _ _ _ _ l.auto.buffer c.play_at.ensures _ (omega arith) _ c.in-Ok.is _ c.counted-tally.ensures.value;
+    }
 
 pub returns : goal.returns
 returns c =
-    let l = c.loop-left in
-    replay-ends _ _ _ _ _ _ _ (omega arith) _ c.end_at.ensures ∙ sym l.invariant.4
+    let l = c.loop-done in
+    replay-ends _ _ _ _ _ _ _ (omega arith) _ c.end_at.ensures ∙ sym l.invariant.rest

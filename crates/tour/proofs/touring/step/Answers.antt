@@ -1,55 +1,26 @@
--- `step` does what `step_at` says, whatever entries were listed before, and tells the entry that it saw: a law for each way out. Assumes nothing.
-use mathlib.Core.Path.{refl, sym, ◌∙◌}
-use mathlib.Core.Bool.{false≢true}
-use native.Mathlib.Omega.{arith}
-use Rattle.tour.proofs.StepLaws.{step_left, step_right, step-bare, step-entry, step-damaged, step-up}
+-- `step` does what `step_at` says, whatever entries were listed before, and tells the entry that it saw: a law for each way on. Assumes nothing.
+use Rattle.std.specs.Prelude.{Ok}
+use mathlib.Core.Path.{◌≡◌, ap, ◌∙◌}
+use Rattle.tour.specs.declared.phases.Dir.{Dir}
+use Rattle.tour.specs.declared.phases.Phase.{Phase}
+use Rattle.tour.proofs.StepLaws.{step_left, step_below, step_right}
 use Rattle.tour.proofs.touring.step.Goals as goal
 
-pub returns-then-phase-eq0 : goal.returns-then-phase-eq0
-returns-then-phase-eq0 c =
-    let b = c.go.ensures.bounds in
-    let h = c.here.ensures in record {
-      says = step_left _ _ c.args.w _ c.requires.2 c.requires.3 _ c.go.result b.1 _ _ _ c.go.ensures.says c.if-phase-eq0.true refl h c.field-left.ensures;
-      bounds = (b.0, omega (arith, b.2, h.4), b.3);
-    }
+pub returns-in_ok-go-in-On-Left-clause-says : goal.returns-in_ok-go-in-On-Left-clause-says
+returns-in_ok-go-in-On-Left-clause-says c =
+    let phase : c.args.w.phase ≡ Phase.On c.in-On-Left.field-0 = c.in-On-Left.is in
+    let dir : c.in-On-Left.field-0 ≡ Dir.Left = rw phase at c.in-On-Left.field-0-is in
+    step_left _ _ c.args.w _ c.requires (Ok c.in_ok-go-in-On-Left.field-0) _ c.in_ok-go-in-On-Left.ensures (phase ∙ ap Phase.On dir)
 
-pub returns-in-Damaged : goal.returns-in-Damaged
-returns-in-Damaged c =
-    let b = c.bad.ensures in record {
-      says = step-damaged _ _ c.args.w _ c.requires.2 c.requires.3 c.if-phase-eq1.true _ _ c.own_work.ensures.says c.in-Damaged.is c.bad.result b.0 _;
-      bounds = ((omega (arith, b.1), omega (arith, b.3)), omega (arith, b.4), λ f. b.1);
-    }
+pub returns-in_ok-go-in-On-Children-clause-says : goal.returns-in_ok-go-in-On-Children-clause-says
+returns-in_ok-go-in-On-Children-clause-says c =
+    let phase : c.args.w.phase ≡ Phase.On c.in-On-Children.field-0 = c.in-On-Children.is in
+    let dir : c.in-On-Children.field-0 ≡ Dir.Children = rw phase at c.in-On-Children.field-0-is in
+    step_below _ _ c.args.w _ c.requires c.in_ok-go-in-On-Children.field-0 _ _ _ c.in_ok-seen-in-On-Children.ensures.says c.in_ok-go-in-On-Children.ensures
+    (phase ∙ ap Phase.On dir)
 
-pub returns-in-Bare : goal.returns-in-Bare
-returns-in-Bare c =
-    let b = c.go-in-Bare.ensures.bounds in
-    let h = c.here-in-Bare.ensures in record {
-      says = step-bare _ _ c.args.w _ c.requires.2 c.requires.3 _ c.go-in-Bare.result b.1 _ _ _ c.go-in-Bare.ensures.says
-          c.if-phase-eq1.true c.field-below.ensures _ c.own_work.ensures.says c.in-Bare.is h;
-      bounds = (b.0, omega (arith, b.2, h.4), b.3);
-    }
-
-pub returns-in-Entry : goal.returns-in-Entry
-returns-in-Entry c =
-    let b = c.go-in-Entry.ensures.bounds in
-    let h = c.here-in-Entry.ensures in
-    let e = c.own_work.ensures.bounds _ c.in-Entry.is in record {
-      says = step-entry _ _ c.args.w _ c.requires.2 c.requires.3 _ c.go-in-Entry.result b.1 _ _ _ c.go-in-Entry.ensures.says
-          c.if-phase-eq1.true c.field-below.ensures _ c.own_work.ensures.says _ c.in-Entry.is e.0 h;
-      bounds = (b.0, omega (arith, b.2, h.4, e.1), b.3);
-    }
-
-pub returns-then-phase-eq2 : goal.returns-then-phase-eq2
-returns-then-phase-eq2 c =
-    let b = c.go-then-phase-eq2.ensures.bounds in
-    let h = c.here-then-phase-eq2.ensures in record {
-      says = step_right _ _ c.args.w _ c.requires.2 c.requires.3 _ c.go-then-phase-eq2.result b.1 _ _ _ c.go-then-phase-eq2.ensures.says c.if-phase-eq2.true refl h c.field-right.ensures;
-      bounds = (b.0, omega (arith, b.2, h.4), b.3);
-    }
-
-pub returns : goal.returns
-returns c =
-    let h = c.here-2.ensures in record {
-      says = step-up _ _ c.args.w _ c.requires.2 c.requires.3 c.if-phase-eq0.false c.if-phase-eq1.false c.if-phase-eq2.false _ c.read_number-came.ensures.0 _ h;
-      bounds = ((omega (arith, h.1, c.read_number-came.ensures.1), omega (arith, h.3)), omega (arith, h.4), λ f. absurd (false≢true (sym f ∙ h.0)));
-    }
+pub returns-in_ok-go-in-On-Right-clause-says : goal.returns-in_ok-go-in-On-Right-clause-says
+returns-in_ok-go-in-On-Right-clause-says c =
+    let phase : c.args.w.phase ≡ Phase.On c.in-On-Right.field-0 = c.in-On-Right.is in
+    let dir : c.in-On-Right.field-0 ≡ Dir.Right = rw phase at c.in-On-Right.field-0-is in
+    step_right _ _ c.args.w _ c.requires (Ok c.in_ok-go-in-On-Right.field-0) _ c.in_ok-go-in-On-Right.ensures (phase ∙ ap Phase.On dir)
