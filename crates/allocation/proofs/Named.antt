@@ -10,7 +10,7 @@ use Rattle.allocation.specs.View.{seen, placed_step}
 use Rattle.allocation.proofs.StepLaws.{rooms-unseen}
 
 -- ---- where the first step goes on, the second decides: r is the first's answer, area its bytes
-then-goes : (s : Step) (on : ℕ → List ℕ → Step) (at : ℕ) (area : List ℕ) → goes at area [] ≡ seen s → seen (on at area) ≡ seen (and_then s on)
+pub then-goes : (s : Step) (on : ℕ → List ℕ → Step) (at : ℕ) (area : List ℕ) → goes at area [] ≡ seen s → seen (on at area) ≡ seen (and_then s on)
 unfolding seen
 then-goes (goes a b rooms) on at area e =
     let p : at ≡ a = cc in

@@ -1,7 +1,7 @@
 -- The name's verdict, told by its segments: it is accepted if and only if each may name a node. So a name that is refused is no entry's.
 use Prim.Native.Nat.{ℕ, zero, suc}
 use native.Mathlib.Omega.{arith}
-use mathlib.Core.Path.{◌≡◌, refl}
+use mathlib.Core.Path.{◌≡◌}
 use mathlib.Core.Logic.{◌≢◌}
 use mathlib.Core.Bool.{true, false}
 use mathlib.Core.List.{List, [], ◌∷◌}
@@ -13,11 +13,10 @@ use Rattle.words.proofs.Laws.{bool_cases, clash}
 use Rattle.words.proofs.Promises.{first-none, first-there}
 use Rattle.names.specs.Names.{dot, on_first, segments}
 use Rattle.layout.specs.declared.refusal.Refusal.{Refusal}
-use Rattle.layout.specs.Refusals.{number_of, pass, fail}
+use Rattle.layout.specs.Refusals.{pass, fail}
 use Rattle.builder.specs.Add.{any_empty, name_verdict}
 use Rattle.sound.specs.Sound.{Without}
 use Rattle.history.proofs.AddPath.{AllNamed}
-use Rattle.history.proofs.Undamaged.{Mild, mild}
 
 -- ---- the two tests of a verdict
 module _ (name : List ℕ) where
@@ -38,13 +37,13 @@ module _ (name : List ℕ) where
   none-empty e = (accepted-tests e).1
 
   -- no test of a name tells of damage or of a bad header
-  pub verdict-refused : (why : Refusal) → name_verdict name ≡ fail why → Mild (number_of why)
+  pub verdict-refused : (why : Refusal) → name_verdict name ≡ fail why → (why ≢ Refusal.Damaged) × (why ≢ Refusal.BadHeader)
   unfolding name_verdict
   verdict-refused why e =
       bool_cases (has_zero name)
-      (λ t. let k : fail Refusal.ZeroByte ≡ fail why = rw t at e in let z : Refusal.ZeroByte ≡ why = cc in rw (← z) (mild (number_of Refusal.ZeroByte) refl refl refl))
+      (λ t. let k : fail Refusal.ZeroByte ≡ fail why = rw t at e in ((λ d. clash cc), (λ h. clash cc)))
       (λ t. bool_cases (any_empty (segments name))
-      (λ u. let k : fail Refusal.EmptySegment ≡ fail why = rw (t, u) at e in let z : Refusal.EmptySegment ≡ why = cc in rw (← z) (mild (number_of Refusal.EmptySegment) refl refl refl))
+      (λ u. let k : fail Refusal.EmptySegment ≡ fail why = rw (t, u) at e in ((λ d. clash cc), (λ h. clash cc)))
       (λ u. let k : pass ≡ fail why = rw (t, u) at e in clash cc))
 
   -- the scan for a zero

@@ -30,7 +30,7 @@ use Rattle.history.specs.History.{Op, add, update, call, op_name, hear, heeded, 
 use Rattle.history.specs.Lack.{seek, entry_of}
 use Rattle.history.specs.Calls.{Undamaged}
 use Rattle.history.proofs.Rooms.{full_number, full-number}
-use Rattle.history.proofs.Undamaged.{Mild, mild, not-accepted, room-mild, found-mild}
+use Rattle.history.proofs.Undamaged.{Mild, undamaged, not-accepted, room-mild, found-mild}
 use Rattle.history.proofs.Leading.{finds-own, finds-new, finds-others}
 use Rattle.history.proofs.Naming.{verdict-refused}
 use Rattle.history.proofs.EntryAdded.{laid_shows}
@@ -73,7 +73,7 @@ module _ (area : List ℕ) (used : ℕ) (tree : Tree) (op : Op) (number : ℕ) (
         now = now;
         sound = rw is sound;
         mark = mark;
-        whole = rw is mild.1;
+        whole = rw is (undamaged number mild);
         tells = λ name before m. rw (unheeded name, same name) m;
         lasts = λ name. rw (unheeded name) (lasts-same (entry_of tree name) (entry_of now name) (same name));
       }
@@ -137,7 +137,8 @@ module _ (area : List ℕ) (used : ℕ) (tree : Tree) (sound : Sound area used t
 
   by-add : AddDone area used tree name value (add_steps area name value) → Next area used tree (add name value)
   by-add (bad_name why e is) =
-      next-refused area used tree (add name value) (number_of why) area (is-of _ is) used tree sound (marked _ is area used tree refl sound) (verdict-refused name why e) (λ n. refl)
+      let v = verdict-refused name why e in
+      next-refused area used tree (add name value) (number_of why) area (is-of _ is) used tree sound (marked _ is area used tree refl sound) (why, refl, v.0, v.1) (λ n. refl)
   by-add (no_room wanted b rooms grown now e over within is S same left) =
       next-refused area used tree (add name value) (full_number wanted) b (is-of _ is) grown now S (marked _ is b grown now refl S)
       (room-mild (full_number wanted) (full-number wanted)) (λ n. same (segments n) bare)
@@ -204,8 +205,8 @@ module _ (area : List ℕ) (used : ℕ) (tree : Tree) (sound : Sound area used t
 
   by-update : UpdateDone area used tree name value (update_steps area name value) → Next area used tree (update name value)
   by-update (unfound number found is) = quiet number is (found-mild number (find-refusals area used tree sound name number found))
-  by-update (long_entry far serial place text here is) = quiet (number_of Refusal.LongEntry) is (mild (number_of Refusal.LongEntry) refl refl refl)
-  by-update (too_long far serial slot here long is) = quiet (number_of Refusal.TooLong) is (mild (number_of Refusal.TooLong) refl refl refl)
+  by-update (long_entry far serial place text here is) = quiet (number_of Refusal.LongEntry) is (Refusal.LongEntry, refl, (λ d. clash cc), (λ h. clash cc))
+  by-update (too_long far serial slot here long is) = quiet (number_of Refusal.TooLong) is (Refusal.TooLong, refl, (λ d. clash cc), (λ h. clash cc))
   by-update (done far serial slot b fresh here few is S s) = updated-next far serial slot b fresh here is S s
 
   pub next-update : Next area used tree (update name value)

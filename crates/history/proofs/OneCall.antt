@@ -96,7 +96,8 @@ module _ (area : List ℕ) (used : ℕ) (tree : Tree) (sound : Sound area used t
           × (serial_steps (bytes_in (outcome (add_steps area name value))) at ≡ accepted (cond (ltb (length value) slot_size) (short_serial (length value)) long_serial))
       by (bad_name why e is) = absurd (number-some why (sym (ap (λ (s : Step). number_in (outcome s)) is) ∙ fine))
       by (no_room wanted b rooms grown now e over within is S same left) =
-          absurd ((room-mild (full_number wanted) (full-number wanted)).0 (sym (ap (λ (s : Step). number_in (outcome s)) is) ∙ fine))
+          let mild = room-mild (full_number wanted) (full-number wanted) in
+          absurd (number-some mild.0 (sym mild.1 ∙ sym (ap (λ (s : Step). number_in (outcome s)) is) ∙ fine))
       by (stays at b rooms grown now serial v e room is sum has S same) =
           let f = entry_found area used tree sound name at serial name v has in
           absurd (let q : accepted (hit at f.0) ≡ refused number = sym f.1 ∙ missing in clash cc)
@@ -129,7 +130,7 @@ module _ (area : List ℕ) (used : ℕ) (tree : Tree) (sound : Sound area used t
     where
       -- a refusal's number is not 0
       refused-not : (number : ℕ) → Mild number → number_in (update_steps area name value) ≡ number → ⊥
-      refused-not number mild e = mild.0 (sym e ∙ fine)
+      refused-not number mild e = number-some mild.0 (sym mild.1 ∙ sym e ∙ fine)
 
       by : UpdateDone area used tree name value (update_steps area name value)
           → (at : ℕ) × (serial : ℕ) × (slot : List ℕ) × (entry_of tree name ≡ entry at serial name (short slot)) × (length value < slot_size)

@@ -1,31 +1,35 @@
--- Refusals that tell neither of damage nor of a bad header: their number is neither 5 nor 8, and not 0.
+-- Refusals that tell neither of damage nor of a bad header: by their number, which then is neither 5 nor 8, and not 0.
 use Prim.Native.Nat.{ℕ}
-use mathlib.Core.Path.{◌≡◌, refl}
+use mathlib.Core.Path.{◌≡◌, sym, ◌∙◌}
 use mathlib.Core.Logic.{◌≢◌, ◌⊎◌, inl, inr}
 use mathlib.Core.Bool.{false}
 use lib.Dec.{eqb}
-use borrow.Author.Tests.{ne_eqb, eqb-false}
+use borrow.Author.Tests.{ne_eqb}
+use Rattle.words.proofs.Laws.{clash}
 use Rattle.layout.specs.declared.refusal.Refusal.{Refusal}
 use Rattle.layout.specs.Refusals.{number_of, no_refusal}
+use Rattle.layout.proofs.Numbers.{number-some, number-one}
 use Rattle.history.specs.Calls.{Undamaged}
 
--- the number of such a refusal
+-- the number of a refusal that is neither
 abbrev pub Mild : ℕ → Type 0
-Mild number = (number ≢ no_refusal) × Undamaged number
+Mild number = (why : Refusal) × (number ≡ number_of why) × (why ≢ Refusal.Damaged) × (why ≢ Refusal.BadHeader)
 
 module _ (number : ℕ) where
-  -- of a number that is given, these tests compute
-  pub mild : eqb number no_refusal ≡ false → eqb number (number_of Refusal.Damaged) ≡ false → eqb number (number_of Refusal.BadHeader) ≡ false → Mild number
-  mild a d h = (eqb-false number no_refusal a, (eqb-false number (number_of Refusal.Damaged) d, eqb-false number (number_of Refusal.BadHeader) h))
+  pub undamaged : Mild number → Undamaged number
+  undamaged m = (
+    λ e. m.2 (number-one m.0 Refusal.Damaged (sym m.1 ∙ e)),
+    λ e. m.3 (number-one m.0 Refusal.BadHeader (sym m.1 ∙ e)),
+  )
 
   pub not-accepted : Mild number → eqb number no_refusal ≡ false
-  not-accepted m = ne_eqb number no_refusal m.0
+  not-accepted m = ne_eqb number no_refusal (λ e. number-some m.0 (sym m.1 ∙ e))
 
--- ---- such are an add's without room, and a lookup's
-pub room-mild : (number : ℕ) → (number ≡ number_of Refusal.NoRoom) ⊎ (number ≡ number_of Refusal.TooLarge) → Mild number
-room-mild number (inl e) = rw e (mild (number_of Refusal.NoRoom) refl refl refl)
-room-mild number (inr e) = rw e (mild (number_of Refusal.TooLarge) refl refl refl)
+  -- ---- such are an add's without room, and a lookup's
+  pub room-mild : (number ≡ number_of Refusal.NoRoom) ⊎ (number ≡ number_of Refusal.TooLarge) → Mild number
+  room-mild (inl e) = (Refusal.NoRoom, e, (λ d. clash cc), (λ h. clash cc))
+  room-mild (inr e) = (Refusal.TooLarge, e, (λ d. clash cc), (λ h. clash cc))
 
-pub found-mild : (number : ℕ) → (number ≡ number_of Refusal.Missing) ⊎ (number ≡ number_of Refusal.EmptySegment) → Mild number
-found-mild number (inl e) = rw e (mild (number_of Refusal.Missing) refl refl refl)
-found-mild number (inr e) = rw e (mild (number_of Refusal.EmptySegment) refl refl refl)
+  pub found-mild : (number ≡ number_of Refusal.Missing) ⊎ (number ≡ number_of Refusal.EmptySegment) → Mild number
+  found-mild (inl e) = (Refusal.Missing, e, (λ d. clash cc), (λ h. clash cc))
+  found-mild (inr e) = (Refusal.EmptySegment, e, (λ d. clash cc), (λ h. clash cc))

@@ -55,10 +55,15 @@ fn hang_node(area: &mut [u8], link: usize, name: &[u8]) -> Result<usize, Refusal
 fn add_prop_trie_node(area: &mut [u8], first: usize, segment: &[u8]) -> Result<usize, Refusal>
     ensures { placed_step result area.new ≡ seen (add_node area.old segment.now first) }
 {
-    match trie::find_prop_trie_node(area, first, segment)? {
-        Searched::Named { node, compared: _ } => Ok(node),
-        Searched::Absent { link, compared: _ } => hang_node(area, link, segment),
-    }
+    // What the search answered is taken apart by `let .. else`, a rule of the project; the other branch lays down what is missing, and returns the refusal.
+    let searched = trie::find_prop_trie_node(area, first, segment);
+    let Ok(Searched::Named { node, compared: _ }) = searched else {
+        let Ok(Searched::Absent { link, compared: _ }) = searched else {
+            return searched.and(Ok(first));
+        };
+        return hang_node(area, link, segment);
+    };
+    Ok(node)
 }
 
 // The node of a segment among the children of a node. The first child is laid down, and then searched from like any other.
@@ -82,7 +87,11 @@ pub fn add_path(area: &mut [u8], name: &[u8]) -> Result<usize, Refusal>
     let mut cursor = NameCursor::start();
     let mut node = Node::ROOT;
     while let Some(Segment { from, to, next }) = cursor.step(name) {
-        node = add_segment(area, node, &name[from..to])?;
+        let placed = add_segment(area, node, &name[from..to]);
+        let Ok(at) = placed else {
+            return placed;
+        };
+        node = at;
         cursor = next;
     }
     Ok(node)

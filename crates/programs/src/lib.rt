@@ -186,6 +186,7 @@ fn serve_all<R: Read>(rt: &HostRuntime, area: &[u8], input: &mut R, line: &mut [
 // Puts what is owed for a last line without line feed at the start of the page.
 fn last_text(area: &[u8], held: &[u8], page: &mut Page<'_>)
     requires { (text_max ≤ length page.old.out.now) × Without line_feed held.now }
+    ensures same_buffer { page.new.out.ghost_name ≡ page.old.out.ghost_name }
     ensures within { page.new.at ≤ length page.new.out.now }
     ensures whole { take page.new.at page.new.out.now ≡ lookup_text area.now held.now }
 {

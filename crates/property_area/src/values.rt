@@ -34,8 +34,8 @@ pub fn value(area: &[u8], offset: u32) -> Result<Span, Refusal>
 pub fn name(area: &[u8], offset: u32) -> Result<Span, Refusal>
     ensures { part_answer result ≡ name_steps area.now offset }
 {
-    let entry = touched_entry(area, offset)?;
-    property_info::property_info_name(entry).ok_or(Refusal::Damaged)
+    let named = touched_entry(area, offset)?;
+    property_info::property_info_name(named).ok_or(Refusal::Damaged)
 }
 
 // The serial as it stands, which counts the entry's updates: the crate serials says what its bits mean.
@@ -43,8 +43,8 @@ pub fn name(area: &[u8], offset: u32) -> Result<Span, Refusal>
 pub fn serial(area: &[u8], offset: u32) -> Result<u32, Refusal>
     ensures { serial_answer result ≡ serial_steps area.now offset }
 {
-    let entry = touched_entry(area, offset)?;
-    Ok(entry.serial())
+    let counted = touched_entry(area, offset)?;
+    Ok(counted.serial())
 }
 
 // A part itself, or an empty part where it is refused.

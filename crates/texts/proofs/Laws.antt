@@ -125,6 +125,19 @@ unfolding escaped
 escaped-few [] = omega arith
 escaped-few (b ∷ bs) = omega (arith, length-append (escaped_byte b) (escaped bs), byte-few b, escaped-few bs)
 
+-- ---- a byte that prints as it is takes one store, and none behind the buffer's end
+pub byte-stored : (out : List ℕ) (at b : ℕ) → prints_as_is b ≡ true → at < length out → saying (at + 1) (set out at b) ≡ said out at (escaped_byte b)
+unfolding escaped_byte said put
+byte-stored out at b p h =
+    let m : at + 1 ≡ min (at + 1) (length out) = omega arith in
+    rw p (ap (λ (n : ℕ). saying n (set out at b)) m)
+
+pub byte-dropped : (out : List ℕ) (at b : ℕ) → prints_as_is b ≡ true → length out ≤ at → saying (length out) out ≡ said out at (escaped_byte b)
+unfolding escaped_byte said
+byte-dropped out at b p h =
+    let m : length out ≡ min (at + 1) (length out) = omega arith in
+    rw p (rw (put-past out at (b ∷ []) h) (ap (λ (n : ℕ). saying n out) m))
+
 -- ---- a text said escaped, byte by byte: one more
 pub says-more : {before mid after : Page} (text : List ℕ) (i : ℕ) → i < length text → Says before mid (escaped (take i text)) → Says mid after (escaped_byte (get_or text i 0))
     → Says before after (escaped (take (i + 1) text))

@@ -63,10 +63,14 @@ impl Page<'_> {
     fn say_byte(&mut self, b: u8)
         ensures { Says self.old self.new (escaped_byte b) }
     {
-        if prints_as_is(b) {
-            self.say(&[b]);
-        } else {
+        if !prints_as_is(b) {
             self.say(&[b'\\', b'x', hex_digit(b / 16), hex_digit(b % 16)]);
+        } else if self.at < self.out.len() {
+            // One byte is one store: most of what is escaped is such bytes, and a copy of one costs a call.
+            self.out[self.at] = b;
+            self.at += 1;
+        } else {
+            self.at = self.out.len();
         }
     }
 
@@ -110,9 +114,6 @@ pub fn assemble(input: &[u8], from: usize, line: &mut Page<'_>) -> Option<usize>
     let start = from.min(input.len());
     let end = words::first(input, b'\n', start, input.len());
     line.say(&input[start..end]);
-    if end < input.len() {
-        Some(end + 1)
-    } else {
-        None
-    }
+    let ended = end < input.len();
+    if ended { Some(end + 1) } else { None }
 }

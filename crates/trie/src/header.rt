@@ -15,11 +15,9 @@ pub fn header_ok(area: &[u8]) -> bool
     if Header::AREA_MAX < area.len() {
         return false;
     }
-    let magic = Header::PROP_AREA_MAGIC;
-    if !words::same(
-        &area[Header::MAGIC..Header::MAGIC + Header::MAGIC_SIZE],
-        &magic,
-    ) {
+    // Two arrays, whose length is known: every call makes this test, and a comparison of slices would be a call of its own.
+    let at = Header::MAGIC;
+    if [area[at], area[at + 1], area[at + 2], area[at + 3]] != Header::PROP_AREA_MAGIC {
         return false;
     }
     words::word(area, Header::VERSION) == Header::PROP_AREA_VERSION

@@ -28,10 +28,10 @@ slice_bounds-add_segment-start c = (stepped (goal.at.slice_bounds-add_segment-st
 pub slice_bounds-add_segment-end : goal.slice_bounds-add_segment-end
 slice_bounds-add_segment-end c = (stepped (goal.at.slice_bounds-add_segment-end c).In-Some).high
 
-pub returns-in_err-node : goal.returns-in_err-node
+pub returns-in_default-placed : goal.returns-in_default-placed
 unfolding add_path seen
-returns-in_err-node c =
-    let s = stepped (goal.at.returns-in_err-node c).In-Some in
+returns-in_default-placed c =
+    let s = stepped (goal.at.returns-in_default-placed c).In-Some in
     rw (c.loop-from.invariant.1, s.parts) (grind (arith, common_steps))
 
 pub loop-from-smaller : goal.loop-from-smaller
