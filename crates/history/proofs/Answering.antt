@@ -8,7 +8,7 @@ use lib.ListN.{length}
 use lib.Dec.{leb, ltb}
 use borrow.Author.Tests.{leb-false, le-leb, le-ltb}
 use Rattle.words.specs.Stores.{run}
-use Rattle.words.proofs.Laws.{bool_cases, clash}
+use Rattle.words.proofs.Laws.{bool_cases}
 use Rattle.words.proofs.StoreLaws.{run_length}
 use Rattle.layout.specs.declared.refusal.Refusal.{Refusal}
 use Rattle.layout.specs.Layout.{format_min, area_max, entry_size, slot_size, backup_at, backup_size, data_size, entry_ok}
@@ -29,7 +29,7 @@ use Rattle.finding.proofs.Promises.{find-refusals, found-own, value-shown, name-
 use Rattle.audit.specs.Check.{Judged, sound, unsound, scratch_min, survey_steps, check_steps, Listing, lists, list_steps}
 use Rattle.dumping.specs.Dump.{dump_text, fill_listing, fill_steps}
 use Rattle.history.specs.Calls.{answer_number, listing_number, filled_number, Answers, by_format, by_call, by_find, by_lookup, by_value, by_name, by_serial, by_raw, by_backup, by_check, by_list, by_dump, Undamaged}
-use Rattle.history.proofs.Undamaged.{undamaged, found-mild}
+use Rattle.history.proofs.Undamaged.{mild, undamaged, found-mild}
 use Rattle.history.proofs.Next.{next}
 use Rattle.history.proofs.Telling.{by-mark}
 
@@ -38,13 +38,13 @@ accepted-whole : Undamaged no_refusal
 accepted-whole = (λ z. omega (arith, z), λ z. omega (arith, z))
 
 too_long-whole : Undamaged (number_of Refusal.TooLong)
-too_long-whole = undamaged _ (Refusal.TooLong, refl, (λ d. clash cc), (λ h. clash cc))
+too_long-whole = undamaged _ (mild Refusal.TooLong refl refl)
 
 long_entry-whole : Undamaged (number_of Refusal.LongEntry)
-long_entry-whole = undamaged _ (Refusal.LongEntry, refl, (λ d. clash cc), (λ h. clash cc))
+long_entry-whole = undamaged _ (mild Refusal.LongEntry refl refl)
 
 short-whole : Undamaged (number_of Refusal.ShortBuffer)
-short-whole = undamaged _ (Refusal.ShortBuffer, refl, (λ d. clash cc), (λ h. clash cc))
+short-whole = undamaged _ (mild Refusal.ShortBuffer refl refl)
 
 module _ (area : List ℕ) (used : ℕ) (tree : Tree) (whole : Sound area used tree) where
   -- ---- anew

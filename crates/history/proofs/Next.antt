@@ -30,7 +30,7 @@ use Rattle.history.specs.History.{Op, add, update, call, op_name, hear, heeded, 
 use Rattle.history.specs.Lack.{seek, entry_of}
 use Rattle.history.specs.Calls.{Undamaged}
 use Rattle.history.proofs.Rooms.{full_number, full-number}
-use Rattle.history.proofs.Undamaged.{Mild, undamaged, not-accepted, room-mild, found-mild}
+use Rattle.history.proofs.Undamaged.{Mild, mild, undamaged, not-accepted, room-mild, found-mild}
 use Rattle.history.proofs.Leading.{finds-own, finds-new, finds-others}
 use Rattle.history.proofs.Naming.{verdict-refused}
 use Rattle.history.proofs.EntryAdded.{laid_shows}
@@ -205,8 +205,8 @@ module _ (area : List ℕ) (used : ℕ) (tree : Tree) (sound : Sound area used t
 
   by-update : UpdateDone area used tree name value (update_steps area name value) → Next area used tree (update name value)
   by-update (unfound number found is) = quiet number is (found-mild number (find-refusals area used tree sound name number found))
-  by-update (long_entry far serial place text here is) = quiet (number_of Refusal.LongEntry) is (Refusal.LongEntry, refl, (λ d. clash cc), (λ h. clash cc))
-  by-update (too_long far serial slot here long is) = quiet (number_of Refusal.TooLong) is (Refusal.TooLong, refl, (λ d. clash cc), (λ h. clash cc))
+  by-update (long_entry far serial place text here is) = quiet (number_of Refusal.LongEntry) is (mild Refusal.LongEntry refl refl)
+  by-update (too_long far serial slot here long is) = quiet (number_of Refusal.TooLong) is (mild Refusal.TooLong refl refl)
   by-update (done far serial slot b fresh here few is S s) = updated-next far serial slot b fresh here is S s
 
   pub next-update : Next area used tree (update name value)

@@ -55,7 +55,7 @@ fn hang_node(area: &mut [u8], link: usize, name: &[u8]) -> Result<usize, Refusal
 fn add_prop_trie_node(area: &mut [u8], first: usize, segment: &[u8]) -> Result<usize, Refusal>
     ensures { placed_step result area.new ≡ seen (add_node area.old segment.now first) }
 {
-    // What the search answered is taken apart by `let .. else`, a rule of the project; the other branch lays down what is missing, and returns the refusal.
+    // What the search answered is taken apart by `let .. else`, a rule of the project; the other branch lays down what is missing, and returns any other refusal, which `and` keeps.
     let searched = trie::find_prop_trie_node(area, first, segment);
     let Ok(Searched::Named { node, compared: _ }) = searched else {
         let Ok(Searched::Absent { link, compared: _ }) = searched else {

@@ -67,9 +67,6 @@ unfolding put
 going-begins area used begun marks₀ list r marks says marked =
     record { marked = marked; listed = refl; few = omega arith; es = []; counts = refl; notes = refl; same = rw sub-zero (ap (run_at area used (steps_max area)) says) }
 
-pub go-damaged : (area : List ℕ) (used : ℕ) (start : List ℕ) (damaged : Damaged) (marks : List ℕ) → Went area used start root Dir.Children None (Err damaged) marks → false ≡ ended (toured area used start)
-go-damaged area used start damaged marks says = ap ended (sym (run-bad area used (steps_max area)) ∙ ap (run_at area used (steps_max area)) (says []))
-
 module _ (area : List ℕ) (used : ℕ) (begun : State (List ℕ)) (marks₀ list₀ : List ℕ) where
   -- a walk that found damage does not end well
   pub tour-fails : (damaged : Damaged) (marks list : List ℕ) (i entries : ℕ) → Going area used begun marks₀ list₀ (Err damaged) marks list i entries → false ≡ ended (run_at area used (steps_max area) begun)
@@ -77,6 +74,10 @@ module _ (area : List ℕ) (used : ℕ) (begun : State (List ℕ)) (marks₀ lis
 
   -- a step of it, from wherever it is: `Stepped`, where it has not found damage
   module _ (r₀ : Result Walk Damaged) (marks list : List ℕ) (i entries : ℕ) (g : Going area used begun marks₀ list₀ r₀ marks list i entries) where
+    turned : i < steps_max area → (r : Result (Walk × Option ℕ) Damaged) (after : List ℕ) → ((es : List ℕ) → listing r after es ≡ step_at area used (walked r₀ marks es))
+        → run_at area used (steps_max area - (i + 1)) (listing r after g.es) ≡ run_at area used (steps_max area) begun
+    turned h r after says = ap (run_at area used (steps_max area - (i + 1))) (says g.es) ∙ sym (run-turn area used (steps_max area) i (walked r₀ marks g.es) h) ∙ g.same
+
     pub going_on : i < steps_max area → (r : Result (Walk × Option ℕ) Damaged) (after noted : List ℕ) (count : ℕ)
         → length after ≡ length marks → length noted ≡ length list
         → ((es : List ℕ) → listing r after es ≡ step_at area used (walked r₀ marks es)) → count ≡ entries + length (seen_in r) → noted ≡ put list entries (seen_in r)
@@ -89,7 +90,7 @@ module _ (area : List ℕ) (used : ℕ) (begun : State (List ℕ)) (marks₀ lis
           es = g.es ++ seen_in r;
           counts = c ∙ ap (λ (k : ℕ). k + length (seen_in r)) g.counts ∙ sym (length-append g.es (seen_in r));
           notes = n ∙ noted_more (seen_in r);
-          same = ap (run_at area used (steps_max area - (i + 1))) (sym (apart r) ∙ says g.es) ∙ sym (run-turn area used (steps_max area) i (walked r₀ marks g.es) h) ∙ g.same;
+          same = ap (run_at area used (steps_max area - (i + 1))) (sym (apart r)) ∙ turned h r after says;
         }
       where
         apart : (r : Result (Walk × Option ℕ) Damaged) → listing r after g.es ≡ walked (walk_in r) after (g.es ++ seen_in r)
@@ -106,10 +107,7 @@ module _ (area : List ℕ) (used : ℕ) (begun : State (List ℕ)) (marks₀ lis
 
   module _ (w : Walk) (marks list : List ℕ) (i entries : ℕ) (g : Going area used begun marks₀ list₀ (Ok w) marks list i entries) where
     pub step-damaged : i < steps_max area → (damaged : Damaged) (after : List ℕ) → Stepped area used w marks (Err damaged) after → false ≡ ended (run_at area used (steps_max area) begun)
-    step-damaged h damaged after says =
-        ap ended (sym (run-bad area used (steps_max area - (i + 1)))
-        ∙ ap (run_at area used (steps_max area - (i + 1))) (says g.es)
-        ∙ sym (run-turn area used (steps_max area) i (view w marks g.es) h) ∙ g.same)
+    step-damaged h damaged after says = ap ended (sym (run-bad area used (steps_max area - (i + 1))) ∙ turned (Ok w) marks list i entries g h (Err damaged) after says)
 
     pub tour-ends : w.cur.word ≡ 0 → (true ≡ ended (run_at area used (steps_max area) begun)) × Noted (run_at area used (steps_max area) begun) entries list₀ list
     tour-ends h =
@@ -128,3 +126,9 @@ module _ (area : List ℕ) (used : ℕ) (begun : State (List ℕ)) (marks₀ lis
         below : (n : ℕ) → (n ≡ 0 → ⊥) → false ≡ ended (here marks n (phase_of w.phase) (before_of w.before) g.es)
         below zero h = absurd (h refl)
         below (suc n) h = refl
+
+-- a walk that is damaged at its first link
+pub go-damaged : (area : List ℕ) (used : ℕ) (start : List ℕ) (damaged : Damaged) (marks : List ℕ) → Went area used start root Dir.Children None (Err damaged) marks → false ≡ ended (toured area used start)
+go-damaged area used start damaged marks says =
+    let begun = begun_at area used start in
+    tour-fails area used begun marks [] damaged marks [] 0 0 (going-begins area used begun marks [] (Err damaged) marks (says []) refl)

@@ -1,5 +1,5 @@
 -- What a header that passes says of the length, and the magic byte by byte.
-use mathlib.Core.Path.{◌≡◌, sym, ◌∙◌}
+use mathlib.Core.Path.{◌≡◌, sym}
 use mathlib.Core.Bool.{Bool, true, false, not}
 use mathlib.Core.List.{List, [], ◌∷◌}
 use Prim.Native.Nat.{ℕ, ◌+◌, ◌≤◌, ◌<◌}
@@ -9,7 +9,7 @@ use borrow.Author.Tests.{leb-true, le-leb}
 use lib.ListN.{length, get_or, drop}
 use lib.Seq.{drop-cons}
 use lib.Dec.{eqb, leb}
-use Rattle.std.specs.Prelude.{nat_eq}
+use Rattle.std.specs.Prelude.{cond, nat_eq}
 use Rattle.std.specs.Cmp.Lexicographic.{pointwise}
 use Rattle.words.specs.Words.{part, same_bytes}
 use Rattle.words.proofs.Laws.{bool_cases, clash, same_pointwise}
@@ -45,17 +45,11 @@ magic-told area h =
     rw (cons 0 (omega arith), cons 1 (omega arith), cons 2 (omega arith), cons 3 (omega arith)) in
     rw cut (sym (same_pointwise (magic_read area) magic))
 
-module _ (area : List ℕ) (low : area_min ≤ length area) (high : length area ≤ area_max) where
-  pub magic-other : true ≡ not (pointwise nat_eq (magic_read area) magic) → false ≡ header_ok area
-  unfolding header_ok
-  magic-other n =
-      let m : same_bytes (part area magic_field (magic_field + magic_size)) magic ≡ false =
-      magic-told area low ∙ bool_cases (pointwise nat_eq (magic_read area) magic) (λ t. let k : ◌≡◌ {A = Bool} true false = rw t at n in clash cc) (λ f. f) in
-      rw (le-leb area_min (length area) low, le-leb (length area) area_max high, m)
-
-  pub magic-same : false ≡ not (pointwise nat_eq (magic_read area) magic) → eqb (header_word area version_field) version ≡ header_ok area
-  unfolding header_ok
-  magic-same n =
-      let m : same_bytes (part area magic_field (magic_field + magic_size)) magic ≡ true =
-      magic-told area low ∙ bool_cases (pointwise nat_eq (magic_read area) magic) (λ t. t) (λ f. let k : ◌≡◌ {A = Bool} false true = rw f at n in clash cc) in
-      rw (le-leb area_min (length area) low, le-leb (length area) area_max high, m)
+-- other is whether the code found another magic
+pub header-told : (area : List ℕ) → area_min ≤ length area → length area ≤ area_max → (other : Bool) → other ≡ not (pointwise nat_eq (magic_read area) magic)
+    → cond other false (eqb (header_word area version_field) version) ≡ header_ok area
+unfolding header_ok
+header-told area low high other e =
+    bool_cases (pointwise nat_eq (magic_read area) magic)
+    (λ t. rw (e, le-leb area_min (length area) low, le-leb (length area) area_max high, magic-told area low, t))
+    (λ f. rw (e, le-leb area_min (length area) low, le-leb (length area) area_max high, magic-told area low, f))
